@@ -1,0 +1,3 @@
+pub mod Accepted
+pub mod Laws
+pub mod Table

@@ -1,0 +1,69 @@
+// A group of members as sixteen 64-bit words: its members, its size, and the check on what is handed in.
+
+ghost use mathlib.Core.Path.{_≡_};
+ghost use Prim.Native.Nat.{_<_};
+ghost use Rattle.game.specs.Group.{bit, size};
+ghost use Rattle.answers.specs.Checks.{groupCheck};
+ghost use Rattle.checks.specs.Checked.{checkOf};
+ghost use Rattle.bits.specs.Words.{digit, ClearRun};
+use checks::Checked;
+
+// Whether member j is in the group.
+pub fn has(words: [u64; 16], j: usize) -> bool
+    ensures { λ r. ⌜ r ≡ bit words j ⌝ }
+{
+    if j < 1024 {
+        words[j / 64] >> (j % 64) & 1 == 1
+    } else {
+        false
+    }
+}
+
+// How many bits of a word are set.
+fn ones_in(word: u64) -> usize
+    ensures { λ r. ⌜ r ≡ size 64 (digit word) ⌝ }
+{
+    u64::count_ones(word) as usize
+}
+
+// How many members are in the group.
+pub fn size_of(words: [u64; 16]) -> usize
+    ensures { λ r. ⌜ r ≡ size 1024 (bit words) ⌝ }
+{
+    let mut total: usize = 0;
+    let mut i: usize = 0;
+    while i < 16 {
+        total += ones_in(words[i]);
+        i += 1;
+    }
+    total
+}
+
+// How many bits from bit j on are seen to be clear: those to the end of its word where all of them are, else 1 or 0.
+fn clear_run(words: [u64; 16], j: usize) -> usize
+    requires { ⌜ j < 1024 ⌝ }
+    ensures { λ r. ⌜ ClearRun words j r ⌝ }
+{
+    if words[j / 64] >> (j % 64) == 0 {
+        64 - j % 64
+    } else if has(words, j) {
+        0
+    } else {
+        1
+    }
+}
+
+// 5: no bit stands at or beyond the number of members.
+pub fn check_group(members: usize, words: [u64; 16]) -> Checked
+    ensures { λ r. ⌜ checkOf r ≡ groupCheck members words ⌝ }
+{
+    let mut j = members;
+    while j < 1024 {
+        let clear = clear_run(words, j);
+        if clear == 0 {
+            return checks::refuse(5, j);
+        }
+        j += clear;
+    }
+    Checked::Accepted
+}

@@ -1,0 +1,2 @@
+mod Arcs
+pub mod Opened

@@ -1,0 +1,84 @@
+-- The answer is that of the arcs not yet looked at.
+use Prim.Native.Nat.{_+_, _-_, _≤_}
+use mathlib.Core.Path.{_≡_, refl, sym, _∙_}
+use lib.ListN.{length, drop}
+use borrow.Author.Needs.{needs}
+use native.Mathlib.Omega.{arith}
+use Rattle.answers.specs.Checks.{arcsCheck}
+use Rattle.checks.proofs.Arcs.{arcs-on, arcs-stop, arcs-end}
+use Rattle.checks.proofs.tree.check_arcs.Statement.{statement}
+use Rattle.checks.proofs.tree.check_arcs.Tie as tie
+
+abbrev Inv-loop : tie.InvT-loop
+Inv-loop parents costs i₀ i =
+    (i ≤ length parents) × (length parents ≡ length costs) × (arcsCheck 1 parents costs ≡ arcsCheck (i + 1) (drop i parents) (drop i costs))
+
+abbrev μ-loop : tie.MeasureT-loop
+μ-loop parents costs i₀ i = length parents - i
+
+loop-holds : tie.Need-loop-holds Inv-loop μ-loop
+loop-holds c = (search needs, search needs, refl)
+
+add-check-arc : tie.Need-add-check-arc Inv-loop μ-loop
+add-check-arc c = search needs
+
+mul-check-arc : tie.Need-mul-check-arc Inv-loop μ-loop
+mul-check-arc c = search needs
+
+shared-slice-read-check-arc : tie.Need-shared-slice-read-check-arc Inv-loop μ-loop
+shared-slice-read-check-arc c = search needs
+
+mul-check-arc-2 : tie.Need-mul-check-arc-2 Inv-loop μ-loop
+mul-check-arc-2 c = search needs
+
+shared-slice-read-check-arc-2 : tie.Need-shared-slice-read-check-arc-2 Inv-loop μ-loop
+shared-slice-read-check-arc-2 c = search needs
+
+check-arc-requires : tie.Need-check-arc-requires Inv-loop μ-loop
+check-arc-requires c κs = search needs
+
+enum-told : tie.Need-enum-told Inv-loop μ-loop
+enum-told c = search needs
+
+enum-told-2 : tie.Need-enum-told-2 Inv-loop μ-loop
+enum-told-2 c = search needs
+
+returns : tie.Need-returns Inv-loop μ-loop
+returns c =
+    arcs-stop _ _ _ _ (omega arith) (omega arith) (c .before .before .check-arc .ensures)
+    (c .before .before .before .before .before .before .loop .inv .2) (c .enum-told2 .given .1)
+
+add-i : tie.Need-add-i Inv-loop μ-loop
+add-i c = search needs
+
+loop-less : tie.Need-loop-less Inv-loop μ-loop
+loop-less c = omega arith
+
+loop-again : tie.Need-loop-again Inv-loop μ-loop
+loop-again c =
+    let before = c .before .before .before .before .before .before .loop .inv in
+    (omega arith, before .1, arcs-on _ _ _ _ (omega arith) (omega arith) (c .before .before .check-arc .ensures) (before .2) (c .enum-told .given .1))
+
+returns-2 : tie.Need-returns-2 Inv-loop μ-loop
+returns-2 c = sym (c .before .loop .inv .2 ∙ arcs-end _ _ _ _ (c .loop-test .left))
+
+pub check-arcs-spec : {M : Type 1} → statement M
+check-arcs-spec =
+    tie.close
+    (tie.spec
+    Inv-loop
+    μ-loop
+    loop-holds
+    add-check-arc
+    mul-check-arc
+    shared-slice-read-check-arc
+    mul-check-arc-2
+    shared-slice-read-check-arc-2
+    check-arc-requires
+    enum-told
+    enum-told-2
+    returns
+    add-i
+    loop-less
+    loop-again
+    returns-2)

@@ -1,0 +1,57 @@
+// The tree check: 1, 2, then 3 and 4 arc by arc.
+use crate::Checked;
+use crate::refuse;
+ghost use mathlib.Core.Path.{_≡_};
+ghost use lib.ListN.{length};
+ghost use Rattle.game.specs.Tree.{treeOf};
+ghost use Rattle.answers.specs.Checks.{treeCheck, arcsCheck, arcCheck};
+ghost use Rattle.checks.specs.Checked.{checkOf};
+
+// The most arcs of a tree, and the greatest cost of one.
+const MOST_ARCS: usize = 1023;
+
+const MOST_COST: u32 = 1_000_000_000;
+
+// 3 and 4 at arc k.
+fn check_arc(k: usize, parent: u16, cost: u32) -> Checked
+    ensures { λ r. ⌜ checkOf r ≡ arcCheck k parent cost ⌝ }
+{
+    if k <= parent as usize {
+        return refuse(3, k);
+    }
+    if MOST_COST < cost {
+        return refuse(4, k);
+    }
+    Checked::Accepted
+}
+
+// 3 and 4 arc by arc.
+fn check_arcs(parents: &[u16], costs: &[u32]) -> Checked
+    requires { ⌜ length (now parents) ≡ length (now costs) ⌝ }
+    ensures { λ r. ⌜ checkOf r ≡ arcsCheck 1 (now (parents .entry)) (now (costs .entry)) ⌝ }
+{
+    let mut i = 0;
+    while i < parents.len() {
+        let arc = check_arc(i + 1, parents[i], costs[i]);
+        let Checked::Accepted = arc else {
+            return arc;
+        };
+        i += 1;
+    }
+    Checked::Accepted
+}
+
+pub fn check_tree(parents: &[u16], costs: &[u32]) -> Checked
+    ensures { λ r. ⌜ checkOf r ≡ treeCheck (treeOf (now (parents .entry)) (now (costs .entry))) ⌝ }
+{
+    if parents.len() == 0 {
+        return refuse(1, 0);
+    }
+    if MOST_ARCS < parents.len() {
+        return refuse(1, 0);
+    }
+    if parents.len() != costs.len() {
+        return refuse(2, 0);
+    }
+    check_arcs(parents, costs)
+}

@@ -1,0 +1,49 @@
+-- Two answers of an entry that stand for the same value or refusal are the same: each answer can be read back.
+use Prim.Native.Nat.{ℕ}
+use mathlib.Core.Path.{_≡_, refl, sym, ap, _∙_}
+use Rattle.answers.specs.Answer.{Answer, value, refusal}
+use Rattle.answers.specs.Needs.{NeedsValue}
+use Rattle.answers.specs.GroupCost.{GroupCostValue}
+use Rattle.engine.specs.Outcomes.{memberCountOf, needsOf, groupCostOf}
+use Rattle.engine.specs.declared.members.MemberCount.{MemberCount}
+use Rattle.engine.specs.declared.members.MemberCount.the-variants.{Members, Refused as NoMembers}
+use Rattle.engine.specs.declared.needs.NeedsFound.{NeedsFound}
+use Rattle.engine.specs.declared.needs.NeedsFound.the-variants.{Needs, Refused as NoNeeds}
+use Rattle.engine.specs.declared.group.GroupCost.{GroupCost}
+use Rattle.engine.specs.declared.group.GroupCost.the-variants.{Cost, Refused as NoCost}
+
+read-back : {A B : Type 0} (of : A → B) (back : B → A) → ((a : A) → back (of a) ≡ a) → (a b : A) → of a ≡ of b → a ≡ b
+read-back of back is a b e = sym (is a) ∙ ap back e ∙ is b
+
+abbrev count-back : Answer ℕ → MemberCount
+count-back (value n) = Members n
+count-back (refusal number place) = NoMembers (record { number = number; place = place })
+
+count-is : (a : MemberCount) → count-back (memberCountOf a) ≡ a
+count-is (Members n) = refl
+count-is (NoMembers r) = refl
+
+pub member-count-one-to-one : (a b : MemberCount) → memberCountOf a ≡ memberCountOf b → a ≡ b
+member-count-one-to-one = read-back memberCountOf count-back count-is
+
+abbrev needs-back : Answer NeedsValue → NeedsFound
+needs-back (value v) = Needs (v .whole) (v .members)
+needs-back (refusal number place) = NoNeeds (record { number = number; place = place })
+
+needs-is : (a : NeedsFound) → needs-back (needsOf a) ≡ a
+needs-is (Needs whole members) = refl
+needs-is (NoNeeds r) = refl
+
+pub needs-one-to-one : (a b : NeedsFound) → needsOf a ≡ needsOf b → a ≡ b
+needs-one-to-one = read-back needsOf needs-back needs-is
+
+abbrev cost-back : Answer GroupCostValue → GroupCost
+cost-back (value v) = Cost (v .size) (v .cost)
+cost-back (refusal number place) = NoCost (record { number = number; place = place })
+
+cost-is : (a : GroupCost) → cost-back (groupCostOf a) ≡ a
+cost-is (Cost size cost) = refl
+cost-is (NoCost r) = refl
+
+pub group-cost-one-to-one : (a b : GroupCost) → groupCostOf a ≡ groupCostOf b → a ≡ b
+group-cost-one-to-one = read-back groupCostOf cost-back cost-is

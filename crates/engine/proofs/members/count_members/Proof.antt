@@ -1,0 +1,43 @@
+use mathlib.Core.Path.{_≡_, ap}
+use denote.Ref.{now}
+use borrow.Author.Needs.{needs}
+use Rattle.game.specs.Tree.{treeOf}
+use Rattle.answers.specs.Answer.{accepted}
+use Rattle.answers.specs.Checks.{treeCheck}
+use Rattle.answers.specs.Members.{memberCountAnswer}
+use Rattle.answers.proofs.Accepted.{tree-accepted}
+use Rattle.checks.proofs.Opened.{opened, turned-away}
+use Rattle.tree.proofs.Bounds.{sound}
+use Rattle.engine.proofs.members.count_members.Statement.{statement}
+use Rattle.engine.proofs.members.count_members.Tie as tie
+
+check-tree-requires : tie.Need-check-tree-requires
+check-tree-requires c κs = search needs
+
+enum-told : tie.Need-enum-told
+enum-told c = search needs
+
+enum-told-2 : tie.Need-enum-told-2
+enum-told-2 c = search needs
+
+refusal-of-requires : tie.Need-refusal-of-requires
+refusal-of-requires c κs = search needs
+
+returns : tie.Need-returns
+unfolding memberCountAnswer
+returns c = rw (turned-away (c .before .before .before .check-tree .ensures) (c .before .enum-told2 .given .1) (c .refusal-of .ensures))
+
+accepted-tree : (c : tie.After-enum-told) → treeCheck (treeOf (now (c .before .before .before .before .before .args .parents)) (now (c .before .before .before .before .before .args .costs))) ≡ accepted
+accepted-tree c = opened (c .before .before .check-tree .ensures) (c .enum-told .given .1)
+
+count-members-requires : tie.Need-count-members-requires
+count-members-requires c κs = sound _ (tree-accepted _ (accepted-tree c))
+
+returns-2 : tie.Need-returns-2
+unfolding memberCountAnswer
+returns-2 c = rw (accepted-tree (c .before), c .count-members .ensures)
+
+pub count-members-spec : {M : Type 1} → statement M
+count-members-spec =
+    tie.close
+    (tie.spec check-tree-requires enum-told enum-told-2 refusal-of-requires returns count-members-requires returns-2)

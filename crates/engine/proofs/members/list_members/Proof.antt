@@ -1,0 +1,108 @@
+use Prim.Native.Nat.{ℕ}
+use mathlib.Core.Path.{_≡_, ap, _∙_}
+use lib.ListN.{length}
+use denote.Ref.{now}
+use borrow.Author.Needs.{needs}
+use Rattle.game.specs.Network.{memberCount}
+use Rattle.game.specs.Tree.{treeOf, network}
+use Rattle.answers.specs.Answer.{accepted}
+use Rattle.answers.specs.Checks.{treeCheck, lengthCheck}
+use Rattle.answers.specs.Members.{membersAnswer, membersList}
+use Rattle.answers.proofs.Accepted.{tree-accepted, length-accepted}
+use Rattle.checks.specs.Checked.{checkOf}
+use Rattle.checks.proofs.Opened.{opened, turned-away}
+use Rattle.tree.proofs.Bounds.{sound}
+use Rattle.engine.proofs.members.list_members.Statement.{statement}
+use Rattle.engine.proofs.members.list_members.Tie as tie
+
+check-tree-requires : tie.Need-check-tree-requires
+check-tree-requires c κs = search needs
+
+enum-told : tie.Need-enum-told
+enum-told c = search needs
+
+enum-told-2 : tie.Need-enum-told-2
+enum-told-2 c = search needs
+
+refusal-of-requires : tie.Need-refusal-of-requires
+refusal-of-requires c κs = search needs
+
+returns : tie.Need-returns
+unfolding membersAnswer membersList
+returns c =
+    let away = turned-away (c .before .before .before .check-tree .ensures) (c .before .enum-told2 .given .1) (c .refusal-of .ensures) in
+    (rw away, rw away)
+
+accepted-tree : (c : tie.After-enum-told)
+    → treeCheck (treeOf (now (c .before .before .before .before .before .before .args .parents)) (now (c .before .before .before .before .before .before .args .costs))) ≡ accepted
+accepted-tree c = opened (c .before .before .check-tree .ensures) (c .enum-told .given .1)
+
+count-members-requires : tie.Need-count-members-requires
+count-members-requires c κs = sound _ (tree-accepted _ (accepted-tree c))
+
+check-output-requires : tie.Need-check-output-requires
+check-output-requires c κs = search needs
+
+enum-told-3 : tie.Need-enum-told-3
+enum-told-3 c = search needs
+
+enum-told-4 : tie.Need-enum-told-4
+enum-told-4 c = search needs
+
+refusal-of-requires-2 : tie.Need-refusal-of-requires-2
+refusal-of-requires-2 c κs = search needs
+
+-- the output check asks for as many places as there are members
+output : (c : tie.After-check-output)
+    → checkOf (c .check-output .result)
+    ≡ lengthCheck (memberCount (network (treeOf (now (c .before .before .before .before .before .before .before .before .args .parents)) (now (c .before .before .before .before .before .before .before .before .args .costs)))))
+    (length (now (c .before .before .before .before .before .before .before .before .args .out)))
+output c =
+    c .check-output .ensures
+    ∙ ap (λ (n : ℕ). lengthCheck n (length (now (c .before .before .before .before .before .before .before .before .args .out)))) (c .before .count-members .ensures)
+
+returns-2 : tie.Need-returns-2
+unfolding membersAnswer membersList
+returns-2 c =
+    let tree = accepted-tree (c .before .before .before .before .before) in
+    let away = turned-away (output (c .before .before .before)) (c .before .enum-told4 .given .1) (c .refusal-of2 .ensures) in
+    (rw (tree, away), rw (tree, away))
+
+accepted-output : (c : tie.After-enum-told3)
+    → lengthCheck (memberCount (network (treeOf (now (c .before .before .before .before .before .before .before .before .before .before .args .parents)) (now (c .before .before .before .before .before .before .before .before .before .before .args .costs)))))
+    (length (now (c .before .before .before .before .before .before .before .before .before .before .args .out)))
+    ≡ accepted
+accepted-output c = opened (output (c .before .before)) (c .enum-told3 .given .1)
+
+write-members-requires : tie.Need-write-members-requires
+write-members-requires c κs =
+    (sound _ (tree-accepted _ (accepted-tree (c .before .before .before .before .before))), length-accepted _ _ (accepted-output (c .before)))
+
+same-length : tie.Need-same-length
+same-length c = search needs
+
+returns-3 : tie.Need-returns-3
+unfolding membersAnswer membersList
+returns-3 c =
+    let tree = accepted-tree (c .before .before .before .before .before .before .before .before) in
+    let list = accepted-output (c .before .before .before .before) in
+    (rw (tree, list, c .before .before .before .before .before .before .before .count-members .ensures), rw (tree, list) (c .before .before .write-members .ensures))
+
+pub list-members-spec : {M : Type 1} → statement M
+list-members-spec =
+    tie.close
+    (tie.spec
+    check-tree-requires
+    enum-told
+    enum-told-2
+    refusal-of-requires
+    returns
+    count-members-requires
+    check-output-requires
+    enum-told-3
+    enum-told-4
+    refusal-of-requires-2
+    returns-2
+    write-members-requires
+    same-length
+    returns-3)

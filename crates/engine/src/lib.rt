@@ -1,0 +1,15 @@
+// The public entries over lists as they are handed in. Each answers its value or a refusal by number and place.
+mod group;
+mod members;
+mod needs;
+
+pub use checks::Checked;
+pub use checks::Refusal;
+pub use checks::check_tree;
+pub use group::GroupCost;
+pub use group::group_cost;
+pub use members::MemberCount;
+pub use members::count_members;
+pub use members::list_members;
+pub use needs::NeedsFound;
+pub use needs::list_needs;

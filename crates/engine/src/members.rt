@@ -1,0 +1,41 @@
+// The number of members, and the members' vertices in a lent list.
+use checks::Checked;
+use checks::Refusal;
+ghost use mathlib.Core.Path.{_≡_};
+ghost use Rattle.game.specs.Tree.{treeOf};
+ghost use Rattle.answers.specs.Members.{memberCountAnswer, membersAnswer, membersList};
+ghost use Rattle.engine.specs.Outcomes.{memberCountOf};
+
+pub enum MemberCount {
+    Members(usize),
+    Refused(Refusal),
+}
+
+// 1 to 4.
+pub fn count_members(parents: &[u16], costs: &[u32]) -> MemberCount
+    ensures { λ r. ⌜ memberCountOf r ≡ memberCountAnswer (treeOf (now (parents .entry)) (now (costs .entry))) ⌝ }
+{
+    let tree = checks::check_tree(parents, costs);
+    let Checked::Accepted = tree else {
+        return MemberCount::Refused(checks::refusal_of(tree));
+    };
+    MemberCount::Members(tree::count_members(parents))
+}
+
+// Writes the members' vertices in rising order. 1 to 4, then 8.
+pub fn list_members(parents: &[u16], costs: &[u32], out: &mut [u16]) -> MemberCount
+    ensures { λ r. ⌜ memberCountOf r ≡ membersAnswer (treeOf (now (parents .entry)) (now (costs .entry))) (now (out .entry)) ⌝ }
+    ensures { λ _. ⌜ now (out .exit) ≡ membersList (treeOf (now (parents .entry)) (now (costs .entry))) (now (out .entry)) ⌝ }
+{
+    let tree = checks::check_tree(parents, costs);
+    let Checked::Accepted = tree else {
+        return MemberCount::Refused(checks::refusal_of(tree));
+    };
+    let n = tree::count_members(parents);
+    let output = checks::check_output(out.len(), n);
+    let Checked::Accepted = output else {
+        return MemberCount::Refused(checks::refusal_of(output));
+    };
+    tree::write_members(parents, out);
+    MemberCount::Members(n)
+}

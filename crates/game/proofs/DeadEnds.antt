@@ -1,0 +1,62 @@
+-- Where the members are the dead ends every arc has a user, so the counted costs are the costs.
+use Prim.Native.Nat.{ℕ, zero, suc, _+_, _≤_, _<_}
+use mathlib.Core.Path.{_≡_, refl, ap, _∙_}
+use mathlib.Core.Bool.{true, false, not}
+use mathlib.Core.Logic.{_⊎_, inl, inr, ⊎-elim}
+use lib.ListN.{length}
+use native.Mathlib.Omega.{arith}
+use borrow.Author.Tests.{eqb-true}
+use lib.Dec.{eqb}
+use Rattle.game.specs.Network.{Network, used, everyone, atCounted, wholeCost, groupCost}
+use Rattle.game.specs.Tree.{Tree, ofArc, hasChild, network}
+use Rattle.game.proofs.Bools.{both, and-both, pick-yes}
+use Rattle.game.proofs.Sums.{In, Some, some-is, sum-cong}
+use Rattle.game.proofs.Below.{Rooted, below-self}
+use Rattle.game.proofs.Groups.{used-of, used-child, everyone-cost}
+
+-- every vertex from 1 on is a member or has a child
+abbrev pub Ends : Network → Type 0
+Ends n = (k : ℕ) → In (n .arcs) k → (n .member k ≡ true) ⊎ Some (n .arcs) (λ u. eqb (n .parent u) k)
+
+pub tree-ends : (t : Tree) → Ends (network t)
+unfolding hasChild
+tree-ends t k i =
+    ⊎-elim
+    (λ (e : hasChild (t .parents) k ≡ true). inr (some-is (length (t .parents)) (λ u. eqb (ofArc (t .parents) u) k) e))
+    (λ (e : hasChild (t .parents) k ≡ false). inl (ap not e))
+    (both (hasChild (t .parents) k))
+
+module _ (n : Network) (rooted : Rooted n) (ends : Ends n) where
+  child-after : (k u : ℕ) → In (n .arcs) u → n .parent u ≡ k → k < u
+  child-after k zero i e = absurd (omega arith)
+  child-after k (suc u) i e = omega (arith, rooted u)
+
+  own : (k : ℕ) → In (n .arcs) k → n .member k ≡ true → used n everyone k ≡ true
+  own k i m = used-of n (record { by = k; within = i; chosen = refl; uses = and-both m (below-self n rooted k) })
+
+  -- d bounds how far the arcs' numbers go on after k
+  used-within : (d k : ℕ) → In (n .arcs) k → n .arcs ≤ k + d → used n everyone k ≡ true
+  used-within zero k i h =
+      ⊎-elim
+      (λ (m : n .member k ≡ true). own k i m)
+      (λ (s : Some (n .arcs) (λ u. eqb (n .parent u) k)).
+      absurd (omega (arith, child-after k (s .which) (s .within) (eqb-true (n .parent (s .which)) k (s .passes)), s .within .high)))
+      (ends k i)
+  used-within (suc d) k i h =
+      ⊎-elim
+      (λ (m : n .member k ≡ true). own k i m)
+      (λ (s : Some (n .arcs) (λ u. eqb (n .parent u) k)).
+      let e = eqb-true (n .parent (s .which)) k (s .passes) in
+      used-child n rooted everyone k (s .which) (s .within) e
+      (used-within d (s .which) (s .within) (omega (arith, child-after k (s .which) (s .within) e))))
+      (ends k i)
+
+  pub every-arc-used : (k : ℕ) → In (n .arcs) k → used n everyone k ≡ true
+  every-arc-used k i = used-within (n .arcs) k i (omega arith)
+
+  pub counted-whole : wholeCost (atCounted n) ≡ wholeCost n
+  unfolding wholeCost
+  counted-whole = sum-cong (n .arcs) (λ k i. pick-yes (n .cost k) (every-arc-used k i))
+
+  pub everyone-pays-whole : groupCost n everyone ≡ wholeCost n
+  everyone-pays-whole = everyone-cost n ∙ counted-whole

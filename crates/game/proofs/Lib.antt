@@ -1,0 +1,10 @@
+pub mod Bools
+pub mod Sums
+pub mod Below
+pub mod Needs
+pub mod Groups
+pub mod Users
+pub mod DeadEnds
+pub mod Sizes
+pub mod Lists
+pub mod Numbering

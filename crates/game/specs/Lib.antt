@@ -1,0 +1,4 @@
+pub mod Sum
+pub mod Network
+pub mod Tree
+pub mod Group

@@ -1,0 +1,1 @@
+// The tree cost game: definitions in specs/, theorems in proofs/. No code.

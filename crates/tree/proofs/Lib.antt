@@ -1,0 +1,5 @@
+pub mod Carry
+pub mod Bounds
+pub mod MemberPass
+pub mod NeedPass
+pub mod GroupPass

@@ -1,0 +1,170 @@
+use Prim.Native.Nat.{_+_, _-_, _≤_, _<_}
+use mathlib.Core.Path.{_≡_, ap, _∙_}
+use mathlib.Core.Bool.{Bool, false, cond}
+use lib.ListN.{length, getD}
+use denote.Ref.{now}
+use native.Mathlib.Omega.{arith}
+use borrow.Author.Needs.{needs}
+use Rattle.game.specs.Tree.{treeOf}
+use Rattle.answers.proofs.Accepted.{Accepted, tree-accepted}
+use Rattle.tree.proofs.GroupPass.{Costing, inUse, costing-start, costing-room, costing-number, costing-used, costing-fits, costing-on, costing-end}
+use Rattle.tree.proofs.group.cost_of.Statement.{statement}
+use Rattle.tree.proofs.group.cost_of.Tie as tie
+use Rattle.tree.proofs.group.cost_of.Reads as reads
+use Rattle.tree.proofs.group.cost_of.Lts as lts
+use Rattle.bits.proofs.has.Reads as has-reads
+use Rattle.tree.proofs.group.cost_if.Reads as cost-if-reads
+use Rattle.tree.proofs.group.either.Reads as either-reads
+use Rattle.tree.proofs.group.used_here.Reads as used-here-reads
+use Rattle.tree.proofs.members.one_if_member.Reads as one-if-member-reads
+
+abbrev Inv-loop : tie.InvT-loop
+Inv-loop parents costs words members has-child₀ used₀ j₀ cost₀ k₀ has-child used j cost k =
+    Accepted (treeOf parents costs) × (0 < k) × (k ≤ length parents + 1) × Costing (treeOf parents costs) words has-child used j cost (k - 1)
+
+abbrev μ-loop : tie.MeasureT-loop
+μ-loop parents costs words members has-child₀ used₀ j₀ cost₀ k₀ has-child used j cost k = k
+
+add-k : tie.Need-add-k Inv-loop μ-loop
+add-k c = search needs
+
+loop-holds : tie.Need-loop-holds Inv-loop μ-loop
+loop-holds c =
+    let ok = tree-accepted _ (c .before .before .pre .0) in
+    (ok, omega arith, omega arith, costing-start _ (c .before .before .args .words) ok (omega arith) (c .before .before .pre .1))
+
+parent-here : (c : tie.In-loop Inv-loop μ-loop)
+    → getD (now (c .before .before .before .before .args .parents)) (c .before .loop .k - 1 - 1) 0 < 1024
+parent-here c = omega (arith, c .before .loop .inv .0 .rooted (c .before .loop .k - 1 - 1), c .before .loop .inv .0 .few)
+
+sub-k : tie.Need-sub-k Inv-loop μ-loop
+sub-k c = search needs
+
+array-read-one-if-member : tie.Need-array-read-one-if-member Inv-loop μ-loop
+array-read-one-if-member c = search needs
+
+one-if-member-requires : tie.Need-one-if-member-requires Inv-loop μ-loop
+one-if-member-requires c κs = search needs
+
+sub-j : tie.Need-sub-j Inv-loop μ-loop
+sub-j c =
+    let at = c .before .before .loop in
+    costing-room _ (c .before .before .before .before .before .args .words) (at .inv .0) _ (at .k - 1 - 1) (omega arith) (omega arith) (at .inv .3) _ (c .one-if-member .ensures)
+
+array-read-used-here : tie.Need-array-read-used-here Inv-loop μ-loop
+array-read-used-here c = search needs
+
+array-read-used-here-2 : tie.Need-array-read-used-here-2 Inv-loop μ-loop
+array-read-used-here-2 c = search needs
+
+has-requires : tie.Need-has-requires Inv-loop μ-loop
+has-requires c κs = search needs
+
+used-here-requires : tie.Need-used-here-requires Inv-loop μ-loop
+used-here-requires c κs = search needs
+
+-- whether the turn's arc is used
+here-used : (c : tie.After-used-here Inv-loop μ-loop)
+    → c .used-here .result
+    ≡ inUse (treeOf (now (c .before .before .before .before .before .before .before .args .parents)) (now (c .before .before .before .before .before .before .before .args .costs)))
+    (c .before .before .before .before .before .before .before .args .words) (c .before .before .before .before .loop .k - 1)
+here-used c =
+    let at = c .before .before .before .before .loop in
+    c .used-here .ensures
+    ∙ ap (λ (b : Bool). cond (getD (at .has-child) (at .k - 1) false) (getD (at .used) (at .k - 1) false) b) (c .before .has .ensures)
+    ∙ costing-used _ (c .before .before .before .before .before .before .before .args .words) (at .inv .0) _ (at .k - 1 - 1) (omega arith) (omega arith) (at .inv .3) _
+    (costing-number _ _ (at .inv .0) _ (at .k - 1 - 1) (omega arith) (omega arith) (at .inv .3) _ (c .before .before .one-if-member .ensures))
+
+sub-cost-if : tie.Need-sub-cost-if Inv-loop μ-loop
+sub-cost-if c = search needs
+
+mul-cost-if : tie.Need-mul-cost-if Inv-loop μ-loop
+mul-cost-if c = search needs
+
+shared-slice-read-cost-if : tie.Need-shared-slice-read-cost-if Inv-loop μ-loop
+shared-slice-read-cost-if c = search needs
+
+cost-if-requires : tie.Need-cost-if-requires Inv-loop μ-loop
+cost-if-requires c κs = search needs
+
+add-cost : tie.Need-add-cost Inv-loop μ-loop
+add-cost c =
+    let at = c .before .before .before .before .before .before .loop in
+    omega (
+      arith,
+      costing-fits _ (c .before .before .before .before .before .before .before .before .before .args .words) (at .inv .0) _ (at .k - 1 - 1) (omega arith) (omega arith) (at .inv .3)
+          (here-used (c .before .before)) (c .cost-if .ensures),
+    )
+
+sub-p : tie.Need-sub-p Inv-loop μ-loop
+sub-p c = search needs
+
+mul-p : tie.Need-mul-p Inv-loop μ-loop
+mul-p c = search needs
+
+shared-slice-read-p : tie.Need-shared-slice-read-p Inv-loop μ-loop
+shared-slice-read-p c = search needs
+
+cast-p : tie.Need-cast-p Inv-loop μ-loop
+cast-p c = omega (arith, parent-here (c .before .before .before .before .before .before))
+
+array-write-has-child : tie.Need-array-write-has-child Inv-loop μ-loop
+array-write-has-child c = omega (arith, parent-here (c .before .before .before .before .before .before))
+
+array-read-either : tie.Need-array-read-either Inv-loop μ-loop
+array-read-either c = omega (arith, parent-here (c .before .before .before .before .before .before))
+
+either-requires : tie.Need-either-requires Inv-loop μ-loop
+either-requires c κs = search needs
+
+array-write-used : tie.Need-array-write-used Inv-loop μ-loop
+array-write-used c = omega (arith, parent-here (c .before .before .before .before .before .before .before))
+
+loop-less : tie.Need-loop-less Inv-loop μ-loop
+loop-less c = search needs
+
+loop-again : tie.Need-loop-again Inv-loop μ-loop
+loop-again c =
+    let at = c .before .before .before .before .before .before .before .before .loop in (
+      at .inv .0,
+      omega arith,
+      omega arith,
+      costing-on _ _ (at .inv .0) _ (at .k - 1 - 1) (omega arith) (omega arith) (at .inv .3) (c .before .before .before .before .before .before .one-if-member .ensures)
+          (here-used (c .before .before .before .before)) (c .before .before .cost-if .ensures) (c .either .ensures),
+    )
+
+returns : tie.Need-returns Inv-loop μ-loop
+returns c = costing-end _ _ (c .before .loop .inv .0) (omega arith) (c .before .loop .inv .3)
+
+pub cost-of-spec : {M : Type 1} → statement M
+cost-of-spec =
+    tie.close
+    (tie.spec
+    Inv-loop
+    μ-loop
+    add-k
+    loop-holds
+    sub-k
+    array-read-one-if-member
+    one-if-member-requires
+    sub-j
+    array-read-used-here
+    array-read-used-here-2
+    has-requires
+    used-here-requires
+    sub-cost-if
+    mul-cost-if
+    shared-slice-read-cost-if
+    cost-if-requires
+    add-cost
+    sub-p
+    mul-p
+    shared-slice-read-p
+    cast-p
+    array-write-has-child
+    array-read-either
+    either-requires
+    array-write-used
+    loop-less
+    loop-again
+    returns)

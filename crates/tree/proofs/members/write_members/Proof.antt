@@ -1,0 +1,96 @@
+use Prim.Native.Nat.{_+_, _-_, _≤_, _<_}
+use mathlib.Core.Path.{_≡_, refl, _∙_}
+use lib.ListN.{length}
+use native.Mathlib.Omega.{arith}
+use borrow.Author.Needs.{needs}
+use Rattle.tree.specs.Passes.{Sound}
+use Rattle.tree.proofs.MemberPass.{Listing, listing-start, listing-room, listing-on, listing-end}
+use Rattle.tree.proofs.members.write_members.Statement.{statement}
+use Rattle.tree.proofs.members.write_members.Tie as tie
+use Rattle.tree.proofs.members.write_members.Reads as reads
+use Rattle.tree.proofs.members.write_members.Lts as lts
+use Rattle.tree.proofs.members.place_member.Reads as place-member-reads
+
+abbrev Inv-loop : tie.InvT-loop
+Inv-loop parents out₀ has-child₀ j₀ k₀ out has-child j k =
+    Sound parents × (0 < k) × (k ≤ length parents + 1) × (length out ≡ length out₀) × Listing parents out has-child j (k - 1)
+
+abbrev μ-loop : tie.MeasureT-loop
+μ-loop parents out₀ has-child₀ j₀ k₀ out has-child j k = k
+
+add-k : tie.Need-add-k Inv-loop μ-loop
+add-k c = search needs
+
+loop-holds : tie.Need-loop-holds Inv-loop μ-loop
+loop-holds c = (c .before .before .pre .0, omega arith, omega arith, refl, listing-start (c .before .before .args .parents .now) (omega arith) (c .before .before .pre .1))
+
+sub-k : tie.Need-sub-k Inv-loop μ-loop
+sub-k c = search needs
+
+cast-place-member : tie.Need-cast-place-member Inv-loop μ-loop
+cast-place-member c = search needs
+
+array-read-place-member : tie.Need-array-read-place-member Inv-loop μ-loop
+array-read-place-member c = search needs
+
+place-member-requires : tie.Need-place-member-requires Inv-loop μ-loop
+place-member-requires c κs =
+    let before = c .before .before .loop .inv in
+    (before .4 .fits, listing-room _ (before .0) _ (c .before .before .loop .k - 1 - 1) (omega arith) (omega arith) (before .4))
+
+sub-has-child : tie.Need-sub-has-child Inv-loop μ-loop
+sub-has-child c = search needs
+
+mul-has-child : tie.Need-mul-has-child Inv-loop μ-loop
+mul-has-child c = omega (arith, c .before .before .before .before .before .loop .inv .0 .few)
+
+shared-slice-read-has-child : tie.Need-shared-slice-read-has-child Inv-loop μ-loop
+shared-slice-read-has-child c = omega (arith, c .before .before .before .before .before .loop-test .taken)
+
+cast-has-child : tie.Need-cast-has-child Inv-loop μ-loop
+cast-has-child c = omega (arith, c .shared-slice-known2 .given (c .before .before .before .before .before .before .loop .k - 1 - 1))
+
+array-write-has-child : tie.Need-array-write-has-child Inv-loop μ-loop
+array-write-has-child c = omega (arith, c .before .before .before .before .before .before .loop .inv .0 .few, c .before .before .before .before .before .before .loop .inv .0 .rising (c .before .before .before .before .before .before .loop .k - 1 - 1))
+
+loop-less : tie.Need-loop-less Inv-loop μ-loop
+loop-less c = omega arith
+
+loop-again : tie.Need-loop-again Inv-loop μ-loop
+loop-again c =
+    let before = c .before .before .before .before .before .before .loop .inv in
+    let put = c .before .before .before .place-member in (
+      before .0,
+      omega arith,
+      omega arith,
+      put .kept .0 ∙ before .3,
+      listing-on _ (before .0) _ (c .before .before .before .before .before .before .loop .k - 1 - 1) (omega arith) (omega arith) (before .4) _ _ (put .ensures .0) (put .ensures .1),
+    )
+
+same-length : tie.Need-same-length Inv-loop μ-loop
+same-length c = c .before .loop .inv .3
+
+returns : tie.Need-returns Inv-loop μ-loop
+returns c = listing-end _ (omega arith) (c .before .loop .inv .4)
+
+pub write-members-spec : {M : Type 1} → statement M
+write-members-spec =
+    tie.close
+    (tie.spec
+    Inv-loop
+    μ-loop
+    add-k
+    loop-holds
+    sub-k
+    cast-place-member
+    array-read-place-member
+    place-member-requires
+    sub-has-child
+    mul-has-child
+    shared-slice-read-has-child
+    cast-has-child
+    array-write-has-child
+    loop-less
+    loop-again
+    same-length
+    returns)

@@ -1,0 +1,52 @@
+// The cost of a group in one pass: that an arc is used is carried to its parent.
+use crate::members::one_if_member;
+ghost use mathlib.Core.Path.{_≡_};
+ghost use mathlib.Core.Bool.{_||_, cond};
+ghost use Rattle.game.specs.Sum.{pick};
+ghost use Rattle.game.specs.Network.{groupCost, memberCount};
+ghost use Rattle.game.specs.Tree.{treeOf, network};
+ghost use Rattle.game.specs.Group.{bit, byNumber};
+ghost use Rattle.answers.specs.Answer.{accepted};
+ghost use Rattle.answers.specs.Checks.{treeCheck};
+
+// An arc is used by a child arc, or at a member by being chosen.
+fn used_here(has_child: bool, by_child: bool, chosen: bool) -> bool
+    ensures { λ r. ⌜ r ≡ cond «has_child» «by_child» chosen ⌝ }
+{
+    if has_child { by_child } else { chosen }
+}
+
+fn either(a: bool, b: bool) -> bool
+    ensures { λ r. ⌜ r ≡ (a || b) ⌝ }
+{
+    if a { true } else { b }
+}
+
+fn cost_if(used: bool, cost: u32) -> u64
+    ensures { λ r. ⌜ r ≡ pick used cost ⌝ }
+{
+    if used { cost as u64 } else { 0 }
+}
+
+// The cost of the group whose member numbers are set in the words.
+pub fn cost_of(parents: &[u16], costs: &[u32], words: [u64; 16], members: usize) -> u64
+    requires { ⌜ treeCheck (treeOf (now parents) (now costs)) ≡ accepted ⌝ }
+    requires { ⌜ members ≡ memberCount (network (treeOf (now parents) (now costs))) ⌝ }
+    ensures { λ r. ⌜ r ≡ groupCost (network (treeOf (now (parents .entry)) (now (costs .entry)))) (byNumber (network (treeOf (now (parents .entry)) (now (costs .entry)))) (bit words)) ⌝ }
+{
+    let mut has_child = [false; 1024];
+    let mut used = [false; 1024];
+    let mut j = members;
+    let mut cost: u64 = 0;
+    let mut k = parents.len() + 1;
+    while k > 1 {
+        k -= 1;
+        j -= one_if_member(has_child[k]);
+        let here = used_here(has_child[k], used[k], bits::has(words, j));
+        cost += cost_if(here, costs[k - 1]);
+        let p = parents[k - 1] as usize;
+        has_child[p] = true;
+        used[p] = either(used[p], here);
+    }
+    cost
+}

@@ -1,0 +1,10 @@
+// Passes over an accepted tree, from arc m down to arc 1, so that an arc is met after all arcs below it.
+// Arrays are indexed by vertex, place 0 for the source.
+mod group;
+mod members;
+mod needs;
+
+pub use group::cost_of;
+pub use members::count_members;
+pub use members::write_members;
+pub use needs::write_needs;

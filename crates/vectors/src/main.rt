@@ -1,0 +1,30 @@
+// Runs the engine's entries on the cases of standard input, one a line, and prints a line each.
+mod case;
+mod print;
+mod read;
+
+use libc::STDIN_FILENO;
+ghost use mathlib.Core.Path.{_≡_};
+ghost use lib.ListN.{length};
+
+// Room for the input, 1 MiB of zeros.
+fn room() -> [u8; 1048576]
+    ensures { λ r. ⌜ 1048576 ≡ length r ⌝ }
+{
+    [0; 1048576]
+}
+
+fn run_all(input: &[u8]) {
+    let mut at = 0;
+    while at < input.len() {
+        let end = bytes::scan::find(input, at, input.len(), b'\n');
+        case::run(&input[at..end]);
+        at = end + 1;
+    }
+}
+
+fn main() {
+    let mut input = room();
+    let n = io::read_full(STDIN_FILENO, &mut input);
+    run_all(&input[..n]);
+}
