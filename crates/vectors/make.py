@@ -7,12 +7,14 @@ named, or else beside this script.
 """
 import random
 import sys
+from itertools import combinations
 from pathlib import Path
 
 # ---------------------------------------------------------------- The rules of document 01
 
 MOST_ARCS = 1023
 MOST_COST = 1_000_000_000
+MOST_SHARE = 2_000_000_000_000
 WORDS, WORD_BITS = 16, 64
 
 
@@ -39,6 +41,15 @@ def check_group(words, count):
     for bit in ones(words):
         if bit >= count:
             raise Refusal(5, bit)
+
+
+def check_proposal(count, proposal):
+    """6, then 7 at the lowest member whose share is outside its range."""
+    if len(proposal) != count:
+        raise Refusal(6)
+    for j, share in enumerate(proposal):
+        if not -MOST_SHARE <= share <= MOST_SHARE:
+            raise Refusal(7, j)
 
 
 def check_output(out, length):
@@ -78,6 +89,52 @@ def arc_needs(parents, costs):
     return needs
 
 
+def group_cost(parents, costs, group):
+    """The costs of all arcs that at least one of the members uses."""
+    vertices = member_vertices(parents)
+    used = {arc for j in group for arc in path(parents, vertices[j])}
+    return sum(costs[arc - 1] for arc in used)
+
+
+MOST_TRIED = 10
+
+
+def best_of_all(parents, costs, proposal):
+    """The greatest overpayment, with the smallest group that reaches it: every group is tried."""
+    members = range(len(proposal))
+    tried = [
+        (sum(proposal[j] for j in group) - group_cost(parents, costs, group), list(group))
+        for size in range(len(proposal) + 1)
+        for group in combinations(members, size)
+    ]
+    most = max(over for over, _ in tried)
+    reach = [group for over, group in tried if over == most]
+    smallest = [group for group in reach if len(group) == len(reach[0])]
+    assert len(smallest) == 1, (parents, costs, proposal)
+    return most, smallest[0]
+
+
+def best_from_leaves(parents, costs, proposal):
+    """The same for any number of members: at each arc nobody, or the best below it together."""
+    over = [0] * (len(parents) + 1)
+    group = [[] for _ in over]
+    for j, vertex in enumerate(member_vertices(parents)):
+        over[vertex], group[vertex] = proposal[j], [j]
+    for arc in range(len(parents), 0, -1):
+        if over[arc] > costs[arc - 1]:
+            parent = parents[arc - 1]
+            over[parent] += over[arc] - costs[arc - 1]
+            group[parent] += group[arc]
+    return over[0], sorted(group[0])
+
+
+def best_group(parents, costs, proposal):
+    best = best_from_leaves(parents, costs, proposal)
+    if len(proposal) <= MOST_TRIED:
+        assert best == best_of_all(parents, costs, proposal), (parents, costs, proposal)
+    return best
+
+
 # ---------------------------------------------------------------- The entries, and what is printed
 
 UNTOUCHED = 9
@@ -110,11 +167,27 @@ def answer_needs(parents, costs, out):
 
 def answer_group(parents, costs, words):
     check_tree(parents, costs)
-    vertices = member_vertices(parents)
-    check_group(words, len(vertices))
+    check_group(words, len(member_vertices(parents)))
     inside = ones(words)
-    used = {arc for j in inside for arc in path(parents, vertices[j])}
-    return f"size {len(inside)} cost {sum(costs[arc - 1] for arc in used)}"
+    return f"size {len(inside)} cost {group_cost(parents, costs, inside)}"
+
+
+def answer_audit(parents, costs, proposal, words):
+    check_tree(parents, costs)
+    check_proposal(len(member_vertices(parents)), proposal)
+    difference = sum(proposal) - sum(costs)
+    if difference != 0:
+        return f"total {difference}"
+    over, group = best_group(parents, costs, proposal)
+    if over == 0:
+        return "pass"
+    words[:] = words_of(group)
+    return f"group {over} of {len(group)}"
+
+
+def answer_shares(count, proposal):
+    check_proposal(count, proposal)
+    return "accepted"
 
 
 ENTRIES = {
@@ -123,6 +196,8 @@ ENTRIES = {
     "members": answer_members,
     "needs": answer_needs,
     "group": answer_group,
+    "audit": answer_audit,
+    "shares": answer_shares,
 }
 
 # the commands whose last field is the length of an output list
@@ -132,13 +207,16 @@ WRITING = {"members", "needs"}
 def answer(case):
     """The line that the program must print."""
     command, *fields = case
+    beside = []
     if command in WRITING:
-        fields[-1] = [UNTOUCHED] * fields[-1]
+        beside = [[UNTOUCHED] * fields.pop()]
+    if command == "audit":
+        beside = [[0] * WORDS]
     try:
-        line = ENTRIES[command](*fields)
+        line = ENTRIES[command](*fields, *beside)
     except Refusal as refusal:
         line = str(refusal)
-    return f"{line}: {shown(fields[-1])}" if command in WRITING else line
+    return ": ".join([line, *map(shown, beside)])
 
 
 def question(case):
@@ -166,6 +244,11 @@ def star(arcs):
 
 def chain(arcs):
     return list(range(arcs))
+
+
+def comb(arcs):
+    """A chain of the odd vertices; each even one hangs off it."""
+    return [0] + [v - 2 | 1 for v in range(2, arcs + 1)]
 
 
 def words_of(bits):
@@ -199,7 +282,39 @@ def random_group(dice, count):
     return words_of(j for j in range(count) if dice.random() < share)
 
 
+def random_payers(dice, parents, costs):
+    """A proposal that passes: each arc is paid by one of its users."""
+    vertices = member_vertices(parents)
+    users = [[] for _ in costs]
+    for j, vertex in enumerate(vertices):
+        for arc in path(parents, vertex):
+            users[arc - 1].append(j)
+    proposal = [0] * len(vertices)
+    for cost, can_pay in zip(costs, users):
+        proposal[dice.choice(can_pay)] += cost
+    return proposal
+
+
+def random_proposal(dice, parents, costs):
+    """Mostly one that adds up, by a few changes of hands."""
+    proposal = random_payers(dice, parents, costs)
+    most = dice.choice([1, 2, max(costs), max(costs), 2 * sum(costs), MOST_SHARE // 10])
+    for _ in range(dice.randrange(6)):
+        amount = dice.randint(0, most)
+        proposal[dice.randrange(len(proposal))] += amount
+        proposal[dice.randrange(len(proposal))] -= amount
+    if dice.randrange(8) == 0:
+        proposal[dice.randrange(len(proposal))] += dice.choice([-1, 1, most, -most])
+    return proposal
+
+
 # ---------------------------------------------------------------- The cases
+
+
+
+def beside_words(line, first=0):
+    return f"{line}: {first}" + ",0" * (WORDS - 1)
+
 
 # document 01's examples, with their answers by hand
 STATED = [
@@ -216,17 +331,26 @@ STATED = [
     (("check", chain(1024), [1] * 1024), "refused 1 at 0"),
     (("group", *T, words_of([2])), "size 1 cost 4"),
     (("group", *T, words_of([3])), "refused 5 at 3"),
+    (("audit", *T, [7, 5, 4]), beside_words("pass")),
+    (("audit", *T, [8, 4, 4]), beside_words("group 1 of 1", 1)),
+    (("audit", *T, [8, 4, 5]), beside_words("total 1")),
+    (("audit", *T, [-1, 13, 4]), beside_words("group 2 of 1", 2)),
+    (("audit", *T, [6, 5, 5]), beside_words("group 1 of 1", 4)),
+    (("audit", *W, [7, 7, 6]), beside_words("group 2 of 2", 3)),
 ]
 
 
 def every_entry(parents, costs, words=words_of([0])):
-    """A case of each command, with output lists of the right length."""
+    """A case of each command, with output lists and a proposal of the right length."""
+    count = len(member_vertices(parents))
     return [
         ("check", parents, costs),
         ("count", parents, costs),
-        ("members", parents, costs, len(member_vertices(parents))),
+        ("members", parents, costs, count),
         ("needs", parents, costs, len(parents)),
         ("group", parents, costs, words),
+        ("audit", parents, costs, [0] * count),
+        ("shares", count, [0] * count),
     ]
 
 
@@ -267,6 +391,140 @@ def group_bits():
         for bits in ([0], [count - 1], [count], range(count), range(count + 1), range(0, count, 3)):
             yield "group", star(count), costs, words_of(bits)
     yield "group", star(1023), [1] * 1023, words_of(range(1024))
+
+
+LEAST, GREATEST = -(2**63), 2**63 - 1
+
+
+def small_audits():
+    """Shares from -2 to 9 over small networks; those that add up, and some that do not."""
+    for parents, costs in (T, U, W, ([0, 0], [3, 0]), ([0, 1, 1, 0], [0, 0, 0, 5])):
+        count = len(member_vertices(parents))
+        for first in range(-2, 10):
+            for second in range(-2, 10):
+                rest = [sum(costs) - first - second] if count == 3 else []
+                yield "audit", parents, costs, [first, second, *rest]
+
+
+def ties():
+    """Several groups reach the greatest overpayment."""
+    # a member with share 0 over an arc of cost 0
+    yield "audit", [0, 0, 0], [0, 0, 4], [4, 0, 0]
+    yield "audit", [0, 0, 0], [0, 0, 4], [0, 4, 0]
+    yield "audit", [0, 0, 0, 0], [0] * 4, [5, 0, 0, -5]
+    yield "audit", [0, 0, 0, 0], [0] * 4, [0] * 4
+    yield "audit", [0, 1, 1, 1, 0], [0, 0, 0, 0, 9], [5, 0, 0, 4]
+    yield "audit", [0, 1, 1, 1, 0], [2, 0, 0, 0, 9], [7, 0, 0, 4]
+    yield "audit", [0, 1, 2, 2, 1, 0], [3, 0, 0, 0, 0, 1], [0, 4, 1, -1]
+    # a member, or a branch, that pays just what it adds
+    yield "audit", *T, [8, 5, 3]
+    yield "audit", [0, 0, 0, 0], [3, 4, 5, 6], [3, 5, 5, 5]
+    yield "audit", [0, 1, 1, 0, 4, 4, 0], [4, 1, 1, 6, 2, 2, 5], [3, 3, 5, 5, 5]
+    yield "audit", [0, 1, 1, 0, 4, 4, 0], [4, 1, 1, 6, 2, 2, 5], [3, 3, 6, 5, 4]
+    # an inner branch pays just its arc, and the run above it does not gain
+    yield "audit", [0, 1, 2, 2, 1, 0], [5, 3, 1, 1, 2, 4], [3, 2, 8, 3]
+
+
+def traps():
+    # several members overpay: the greatest group has them all
+    yield "audit", star(4), [5, 5, 5, 5], [6, 8, 3, 3]
+    yield "audit", star(4), [5, 5, 5, 5], [3, 8, 3, 6]
+    # no single member overpays, nor any pair
+    yield "audit", [0, 1, 1, 1, 0], [10, 1, 1, 1, 8], [5, 5, 5, 6]
+    # a group that overpays inside one that does so less, and the other way round
+    yield "audit", [0, 1, 1, 0], [3, 1, 1, 9], [9, -2, 7]
+    yield "audit", [0, 1, 1, 0], [3, 1, 1, 9], [4, 4, 6]
+    # negative shares
+    for proposal in ([-1, -2, -3], [-1, -1, 18], [18, -1, -1], [-1, 18, -1], [0, 0, 16], [0, 0, 0]):
+        yield "audit", *T, proposal
+    for difference in (-(10**9), -10, -1, 1, 9, 10, 10**9):
+        yield "audit", *T, [7, 5 + difference, 4]
+
+
+def share_limits():
+    for share in (MOST_SHARE, MOST_SHARE + 1, 2**53, GREATEST):
+        for signed in (share, -share):
+            yield "audit", [0], [7], [signed]
+            yield "audit", star(2), [0, 0], [signed, -signed]
+            for place in range(3):
+                proposal = [7, 5, 4]
+                proposal[place] = signed
+                yield "audit", *T, proposal
+                yield "shares", 3, proposal
+    for share in (LEAST, LEAST + 1):
+        yield "audit", [0], [0], [share]
+        yield "shares", 2, [0, share]
+    for count, length in ((0, 0), (0, 1), (1, 0), (1, 1), (1022, 1023), (1024, 1023), (1023, 1023)):
+        yield "shares", count, [0] * length
+    for count in (1099, 1100):
+        yield "shares", count, [0] * 1100
+    yield "shares", 1100, [0] * 1099 + [MOST_SHARE + 1]
+    yield "shares", 1023, [-MOST_SHARE] * 1023
+
+
+def share_refusals():
+    outside = MOST_SHARE + 1
+    # 6 before 7
+    proposals = [[], [outside], [0, -outside], [0, 0, 0, outside], [LEAST] * 4]
+    # 7 at the lowest member
+    proposals += [[0, outside, -outside], [-outside, 0, outside], [MOST_SHARE, -outside, 0]]
+    proposals += [[0, 0, GREATEST], [LEAST, 0, 0], [outside] * 3]
+    for proposal in proposals:
+        yield "audit", *T, proposal
+        yield "shares", 3, proposal
+    # the tree before both
+    for parents, costs in FAULTY:
+        for proposal in ([], [outside], [1, LEAST, 2], [0] * 5):
+            yield "audit", parents, costs, proposal
+
+
+def full_audits():
+    """As many members as there can be."""
+    everyone = star(1023)
+    ones_each = [1] * 1023
+    yield "audit", everyone, ones_each, ones_each
+    yield "audit", everyone, ones_each, [1] * 1022 + [2]
+    for payer in (0, 64, 1022):
+        proposal = [1] * 1023
+        proposal[payer] += 5
+        proposal[(payer + 7) % 1023] -= 5
+        yield "audit", everyone, ones_each, proposal
+    yield "audit", everyone, ones_each, [2] * 1022 + [-1021]
+    yield "audit", everyone, ones_each, [-1021] + [2] * 1022
+    yield "audit", everyone, [0] * 1023, [1 - 2 * (j % 2) for j in range(1022)] + [0]
+    for share in (MOST_SHARE, -MOST_SHARE):
+        yield "audit", everyone, ones_each, [share] * 1023
+    yield "audit", everyone, ones_each, [MOST_SHARE, -MOST_SHARE] * 511 + [1023]
+    yield "audit", everyone, ones_each, [1] * 1022 + [-MOST_SHARE - 1]
+    yield "audit", everyone, ones_each, [1] * 1022
+    yield "audit", everyone, ones_each, [1] * 1024
+
+
+def deep_audits():
+    costs = [arc % 7 for arc in range(1023)]
+    for stray in (-1, 0, 1):
+        yield "audit", chain(1023), costs, [sum(costs) + stray]
+    dice = random.Random(511)
+    for arcs in (40, 301, 1023):
+        costs = [dice.randint(0, 9) for _ in range(arcs)]
+        yield "audit", comb(arcs), costs, random_payers(dice, comb(arcs), costs)
+        for _ in range(3):
+            yield "audit", comb(arcs), costs, random_proposal(dice, comb(arcs), costs)
+    # one member pays for all
+    costs = [1] * 1023
+    yield "audit", comb(1023), costs, [0] * 511 + [1023]
+    yield "audit", comb(1023), costs, [1023] + [0] * 511
+    # each pays its own arc and the one above
+    yield "audit", comb(1023), costs, [2] * 511 + [1]
+
+
+def random_audits():
+    dice = random.Random(20)
+    for _ in range(320):
+        parents, costs = random_tree(dice, dice.randint(1, 12))
+        yield "audit", parents, costs, random_proposal(dice, parents, costs)
+        if dice.randrange(4) == 0:
+            yield "audit", parents, costs, random_payers(dice, parents, costs)
 
 
 # trees with more than one fault, or with one that comes before those of other lists
@@ -352,6 +610,8 @@ def large_trees():
         yield from every_entry(parents, costs, random_group(dice, count))
         yield "group", parents, costs, words_of(range(count))
         yield "group", parents, costs, random_group(dice, count)
+        for _ in range(2):
+            yield "audit", parents, costs, random_proposal(dice, parents, costs)
 
 
 # lines that are no case
@@ -385,6 +645,41 @@ UNREADABLE = [
     "group 0 1 " + shown([0] * 15),
     "group 0 1 " + shown([0] * 17),
     "group 0 1 " + shown([0] * 15 + [2**64]),
+    "audit 0 1",
+    "audit 0 1 1 1",
+    "audit 0 1 " + str(GREATEST + 1),
+    "audit 0 1 " + str(LEAST - 1),
+    "audit 0 1 -" + str(2**64),
+    "audit 0 1 --1",
+    "audit 0 1 1-",
+    "audit 0 1 -,1",
+    "audit 0 1 1,-",
+    "audit 0 1 +1",
+    "audit 0 1 " + shown([0] * 1101),
+    "shares 1",
+    "shares 1 1 1",
+    "shares 1101 1",
+    "shares - 1",
+    "shares -1 1",
+    "shares 1 1,",
+    "shares 1 x",
+]
+
+PARTS = [
+    small_networks,
+    limits,
+    group_bits,
+    refusal_order,
+    random_trees,
+    large_trees,
+    small_audits,
+    ties,
+    traps,
+    share_limits,
+    share_refusals,
+    full_audits,
+    deep_audits,
+    random_audits,
 ]
 
 # ---------------------------------------------------------------- Writing
@@ -402,7 +697,7 @@ def main(folder):
     for case, stated in STATED:
         assert answer(case) == stated, (case, answer(case))
     cases = [case for case, _ in STATED]
-    for part in (small_networks, limits, group_bits, refusal_order, random_trees, large_trees):
+    for part in PARTS:
         cases += part()
     size = write(folder / "stdin", [question(case) for case in cases] + UNREADABLE)
     write(folder / "stdout", [answer(case) for case in cases] + ["bad case"] * len(UNREADABLE))

@@ -1,13 +1,14 @@
 -- What it means that a check, and a tree, is accepted.
 use Prim.Native.Nat.{ℕ, zero, suc, _+_, _≤_, _<_}
 use mathlib.Core.Path.{_≡_, refl}
-use mathlib.Core.Bool.{Bool, true, false, _||_, not, true≢false}
+use mathlib.Core.Bool.{Bool, true, false, _||_, not}
 use mathlib.Core.List.{List, [], _∷_}
 use native.Mathlib.Omega.{arith}
-use borrow.Author.Tests.{eqb-true, eqb-false, ltb-false, leb-false, not-false}
+use borrow.Author.Tests.{eqb-true, ltb-false, leb-false, not-false}
 use lib.ListN.{length, getD}
 use lib.Dec.{eqb, ltb, leb}
 use Rattle.game.specs.Tree.{Tree, ofArc}
+use Rattle.game.proofs.Bools.{neither-second}
 use Rattle.answers.specs.Answer.{Check, accepted, refused, fault, _then_}
 use Rattle.answers.specs.Checks.{mostArcs, mostCost, arcCheck, arcsCheck, treeCheck, lengthCheck}
 
@@ -25,14 +26,6 @@ second-accepted (refused number place) b e = absurd (not-refused e)
 pub no-fault : (b : Bool) (number place : ℕ) → fault b number place ≡ accepted → b ≡ false
 no-fault true number place e = absurd (not-refused e)
 no-fault false number place e = refl
-
-neither-first : (a b : Bool) → (a || b) ≡ false → a ≡ false
-neither-first true b e = e
-neither-first false b e = refl
-
-neither-second : (a b : Bool) → (a || b) ≡ false → b ≡ false
-neither-second true b e = absurd (true≢false e)
-neither-second false b e = e
 
 -- arcs from k on: each parent is below its arc, each cost within its limit
 pub record Arcs (k : ℕ) (parents costs : List ℕ) : Type 0 where
@@ -61,7 +54,6 @@ arcs-accepted k (p ∷ parents) (c ∷ costs) pos same e =
 
 -- a tree on which no check finds fault
 pub record Accepted (t : Tree) : Type 0 where
-  pub any : 0 < length (t .parents)
   pub few : length (t .parents) ≤ mostArcs
   pub same : length (t .parents) ≡ length (t .costs)
   pub rooted : (v : ℕ) → ofArc (t .parents) (suc v) ≤ v
@@ -71,7 +63,6 @@ pub tree-accepted : (t : Tree) → treeCheck t ≡ accepted → Accepted t
 unfolding treeCheck
 tree-accepted t e =
     record {
-      any = omega (arith, eqb-false (length (t .parents)) 0 (neither-first size-zero size-many sizes));
       few = ltb-false mostArcs (length (t .parents)) (neither-second size-zero size-many sizes);
       same = same;
       rooted = λ v. omega (arith, arcs .rising v);

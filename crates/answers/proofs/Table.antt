@@ -2,15 +2,18 @@
 use mathlib.Core.Path.{refl}
 use Rattle.game.specs.Network.{climb, used, groupCost, sumBelow, wholeCost, membersTo}
 use Rattle.game.specs.Tree.{hasChild}
-use Rattle.game.specs.Group.{bit, size}
-use Rattle.answers.specs.Checks.{arcsCheck, treeCheck, bitsCheck}
+use Rattle.game.specs.Group.{bit, size, wordsOf}
+use Rattle.game.specs.Proposal.{pays}
+use Rattle.game.specs.Search.{groups, best, named}
+use Rattle.answers.specs.Checks.{arcsCheck, treeCheck, bitsCheck, rangeCheck}
 use Rattle.answers.specs.Members.{memberCountAnswer, membersAnswer, membersList}
 use Rattle.answers.specs.Needs.{needsAnswer, needsList}
 use Rattle.answers.specs.GroupCost.{groupCostAnswer}
+use Rattle.answers.specs.Audit.{verdict, auditAnswer, auditWords}
 use Rattle.answers.specs.Table.{Table}
 
 pub table : Table
-unfolding climb used groupCost sumBelow wholeCost membersTo hasChild bit size arcsCheck treeCheck bitsCheck memberCountAnswer membersAnswer membersList needsAnswer needsList groupCostAnswer
+unfolding climb used groupCost sumBelow wholeCost membersTo hasChild bit size wordsOf pays groups best named arcsCheck treeCheck bitsCheck rangeCheck memberCountAnswer membersAnswer membersList needsAnswer needsList groupCostAnswer verdict auditAnswer auditWords
 table =
     record {
       T-members = refl;
@@ -22,4 +25,14 @@ table =
       T-cost-of-0 = refl;
       T-cost-of-0-1 = refl;
       T-cost-of-1-2 = refl;
+      T-7-5-4 = refl;
+      T-7-5-4-words = refl;
+      T-8-4-4 = refl;
+      T-8-4-4-words = refl;
+      T-8-4-5 = refl;
+      T-8-4-5-words = refl;
+      T-less-1-13-4 = refl;
+      T-less-1-13-4-words = refl;
+      W-7-7-6 = refl;
+      W-7-7-6-words = refl;
     }

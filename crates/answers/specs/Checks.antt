@@ -1,12 +1,13 @@
 -- The checks on lists as they are handed in, with document 01's numbers and places.
 use Prim.Native.Nat.{ℕ, zero, suc, _+_, _-_}
-use mathlib.Core.Bool.{Bool, true, false, _||_, not}
+use mathlib.Core.Bool.{Bool, _||_, not}
 use mathlib.Core.List.{List, [], _∷_}
 use lib.ListN.{length}
+use lib.IntN.{ℤ, natAbs}
 use lib.Dec.{eqb, ltb, leb}
 use Rattle.game.specs.Tree.{Tree}
 use Rattle.game.specs.Group.{bit}
-use Rattle.answers.specs.Answer.{Check, accepted, refused, fault, _then_}
+use Rattle.answers.specs.Answer.{Check, accepted, fault, _then_}
 
 -- the most arcs, and the greatest cost of one
 abbrev pub mostArcs : ℕ
@@ -40,6 +41,25 @@ bitsCheck words (suc f) j = fault (bit words j) 5 j then bitsCheck words f (j + 
 -- no bit of the sixteen words stands at or beyond the number of members
 abbrev pub groupCheck : ℕ → List ℕ → Check
 groupCheck members words = bitsCheck words (1024 - members) members
+
+-- 7 at the lowest entry that is outside its range; the first entry is that of member j
+unfoldable pub rangeCheck : {A : Type 0} → (A → Bool) → ℕ → List A → Check
+rangeCheck outside j [] = accepted
+rangeCheck outside j (x ∷ rest) = fault (outside x) 7 j then rangeCheck outside (j + 1) rest
+
+-- a list with one entry a member: 6 where its length is not the number of members, then 7
+abbrev pub memberListCheck : {A : Type 0} → (A → Bool) → ℕ → List A → Check
+memberListCheck outside members l = fault (not (eqb (length l) members)) 6 0 then rangeCheck outside 0 l
+
+-- the greatest amount that a share or a cap can have
+abbrev pub mostShare : ℕ
+mostShare = 2000000000000
+
+abbrev pub outsideShare : ℤ → Bool
+outsideShare x = ltb mostShare (natAbs x)
+
+abbrev pub proposalCheck : ℕ → List ℤ → Check
+proposalCheck = memberListCheck outsideShare
 
 -- 8 where an output list does not have exactly the length of what is written
 abbrev pub lengthCheck : ℕ → ℕ → Check

@@ -3,5 +3,8 @@ pub mod Checks
 pub mod Members
 pub mod Needs
 pub mod GroupCost
+pub mod Audit
 pub mod Laws
+pub mod AuditLaws
+pub mod CoreLaws
 pub mod Table

@@ -1,17 +1,23 @@
 -- Document 01's starred examples, as one statement about the answers and lists of the entries.
 use Prim.Native.Nat.{ℕ}
 use mathlib.Core.Path.{_≡_}
-use mathlib.Core.List.{List, [], _∷_, _++_}
+use mathlib.Core.List.{List, [], _∷_}
 use lib.ListN.{replicate}
+use lib.IntN.{pos, negsuc}
 use Rattle.game.specs.Tree.{Tree}
 use Rattle.answers.specs.Answer.{value}
 use Rattle.answers.specs.Members.{memberCountAnswer, membersAnswer, membersList}
 use Rattle.answers.specs.Needs.{needsAnswer, needsList}
 use Rattle.answers.specs.GroupCost.{groupCostAnswer}
+use Rattle.answers.specs.Audit.{wrongTotal, objection, pass, auditAnswer, auditWords}
 
 -- document 01's tree T
 abbrev pub T : Tree
 T = record { parents = 0 ∷ 1 ∷ 1 ∷ 0 ∷ []; costs = 6 ∷ 1 ∷ 5 ∷ 4 ∷ [] }
+
+-- document 01's tree W
+abbrev pub W : Tree
+W = record { parents = 0 ∷ 1 ∷ 1 ∷ 0 ∷ []; costs = 10 ∷ 1 ∷ 1 ∷ 8 ∷ [] }
 
 -- the sixteen words whose first is w and whose others are 0
 abbrev pub group : ℕ → List ℕ
@@ -27,3 +33,13 @@ pub record Table : Type 0 where
   pub T-cost-of-0 : groupCostAnswer T (group 1) ≡ value (record { size = 1; cost = 7 })
   pub T-cost-of-0-1 : groupCostAnswer T (group 3) ≡ value (record { size = 2; cost = 12 })
   pub T-cost-of-1-2 : groupCostAnswer T (group 6) ≡ value (record { size = 2; cost = 15 })
+  pub T-7-5-4 : auditAnswer T (pos 7 ∷ pos 5 ∷ pos 4 ∷ []) ≡ value pass
+  pub T-7-5-4-words : auditWords T (pos 7 ∷ pos 5 ∷ pos 4 ∷ []) ≡ group 0
+  pub T-8-4-4 : auditAnswer T (pos 8 ∷ pos 4 ∷ pos 4 ∷ []) ≡ value (objection 1 1)
+  pub T-8-4-4-words : auditWords T (pos 8 ∷ pos 4 ∷ pos 4 ∷ []) ≡ group 1
+  pub T-8-4-5 : auditAnswer T (pos 8 ∷ pos 4 ∷ pos 5 ∷ []) ≡ value (wrongTotal (pos 1))
+  pub T-8-4-5-words : auditWords T (pos 8 ∷ pos 4 ∷ pos 5 ∷ []) ≡ group 0
+  pub T-less-1-13-4 : auditAnswer T (negsuc 0 ∷ pos 13 ∷ pos 4 ∷ []) ≡ value (objection 2 1)
+  pub T-less-1-13-4-words : auditWords T (negsuc 0 ∷ pos 13 ∷ pos 4 ∷ []) ≡ group 2
+  pub W-7-7-6 : auditAnswer W (pos 7 ∷ pos 7 ∷ pos 6 ∷ []) ≡ value (objection 2 2)
+  pub W-7-7-6-words : auditWords W (pos 7 ∷ pos 7 ∷ pos 6 ∷ []) ≡ group 3

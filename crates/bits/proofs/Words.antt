@@ -1,27 +1,17 @@
--- The bits of a group's words: where a bit stands, and how many bits of a word are ones.
+-- The bits of a group's words: those that a shift shows to be clear, and how many of a word are ones.
 use Prim.Native.Nat.{ℕ, zero, suc, _+_, _*_, _-_, _/_, _%_, _^_, _<_, _≤_}
-use mathlib.Core.Path.{_≡_, refl, sym, ap}
+use mathlib.Core.Path.{_≡_, ap, _∙_}
 use mathlib.Core.Bool.{false}
 use mathlib.Core.List.{List}
 use native.Mathlib.Nat.{zero-div}
-use native.Mathlib.Numerals.{add-one}
+use native.Mathlib.Numerals.{add-one, one-add}
 use native.Mathlib.Omega.{arith}
 use lib.ListN.{getD}
-use lib.Dec.{eqb}
 use lib.Pow.{shr-shr, shr-lt}
 use lib.Count.{ones, ones-step}
-use Rattle.game.specs.Sum.{pick}
-use Rattle.game.specs.Group.{bit, size}
-use Rattle.bits.specs.Words.{digit}
+use Rattle.game.specs.Group.{digit, bit, size}
 use Rattle.game.proofs.Sizes.{size-split, size-same}
-
--- bit j of word i
-pub bit-at : (words : List ℕ) (i j : ℕ) → j < 64 → bit words (64 * i + j) ≡ digit (getD words i 0) j
-unfolding bit
-bit-at words i j h =
-    let q : (64 * i + j) / 64 ≡ i = omega arith in
-    let r : (64 * i + j) % 64 ≡ j = omega arith in
-    rw (q, r)
+use Rattle.game.proofs.Encoding.{lowest, digit-half, bit-at}
 
 -- where a word shifted down by j is 0, no bit from bit j to the word's end is set
 pub clear-rest : (words : List ℕ) (j k : ℕ) → getD words (j / 64) 0 / 2 ^ (j % 64) ≡ 0 → j ≤ k → k < j + (64 - j % 64) → bit words k ≡ false
@@ -31,19 +21,13 @@ clear-rest words j k e l h =
     let r : k % 64 ≡ j % 64 + (k - j) = omega arith in
     rw (q, r, ← shr-shr, e, zero-div)
 
--- a digit, counted
-lowest : (d : ℕ) → d < 2 → pick (eqb d 1) 1 ≡ d
-lowest zero h = refl
-lowest (suc zero) h = refl
-lowest (suc (suc d)) h = absurd (omega arith)
-
 -- a word's lowest bit, and the bits of its half
 digits-step : (k w : ℕ) → size (suc k) (digit w) ≡ w % 2 + size k (digit (w / 2))
 unfolding size
 digits-step k w =
     let front : suc k ≡ 1 + k = omega arith in
-    let rest : size k (λ i. digit w (1 + i)) ≡ size k (digit (w / 2)) = size-same k _ _ (λ i h. ap (λ (x : ℕ). eqb (x % 2) 1) (sym (shr-shr w 1 i))) in
-    omega (arith, ap (λ (n : ℕ). size n (digit w)) front, size-split 1 k (digit w), lowest (w / 1 % 2) (omega arith))
+    let rest : size k (λ i. digit w (1 + i)) ≡ size k (digit (w / 2)) = size-same k _ _ (λ i h. ap (digit w) (one-add i) ∙ digit-half w i) in
+    omega (arith, ap (λ (n : ℕ). size n (digit w)) front, size-split 1 k (digit w), lowest w)
 
 -- the ones of a word of k bits are the bits that are set
 pub ones-digits : (k w : ℕ) → w < 2 ^ k → ones w ≡ size k (digit w)

@@ -1,14 +1,9 @@
--- The bits of a word, and a run of clear bits of a group.
-use Prim.Native.Nat.{ℕ, _+_, _/_, _%_, _^_, _<_, _≤_}
+-- A run of clear bits of a group.
+use Prim.Native.Nat.{ℕ, _+_, _<_, _≤_}
 use mathlib.Core.Path.{_≡_}
-use mathlib.Core.Bool.{Bool, true, false}
+use mathlib.Core.Bool.{true, false}
 use mathlib.Core.List.{List}
-use lib.Dec.{eqb}
 use Rattle.game.specs.Group.{bit}
-
--- bit i of a word
-abbrev pub digit : ℕ → ℕ → Bool
-digit word i = eqb (word / 2 ^ i % 2) 1
 
 -- the r bits from bit j on are clear; where r is 0, bit j is set
 pub record ClearRun (words : List ℕ) (j r : ℕ) : Type 0 where

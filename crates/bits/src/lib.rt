@@ -1,11 +1,13 @@
-// A group of members as sixteen 64-bit words: its members, its size, and the check on what is handed in.
+// A group of members as sixteen 64-bit words: its members, a member put in, its size, and the check on what is handed in.
 
 ghost use mathlib.Core.Path.{_≡_};
-ghost use Prim.Native.Nat.{_<_};
-ghost use Rattle.game.specs.Group.{bit, size};
+ghost use mathlib.Core.Bool.{_&&_, _||_};
+ghost use Prim.Native.Nat.{ℕ, _<_};
+ghost use lib.Dec.{eqb, ltb};
+ghost use Rattle.game.specs.Group.{digit, bit, size, wordsOf};
 ghost use Rattle.answers.specs.Checks.{groupCheck};
 ghost use Rattle.checks.specs.Checked.{checkOf};
-ghost use Rattle.bits.specs.Words.{digit, ClearRun};
+ghost use Rattle.bits.specs.Words.{ClearRun};
 use checks::Checked;
 
 // Whether member j is in the group.
@@ -17,6 +19,26 @@ pub fn has(words: [u64; 16], j: usize) -> bool
     } else {
         false
     }
+}
+
+// The word with bit i set.
+fn set_in_word(word: u64, i: usize) -> u64
+    requires { ⌜ i < 64 ⌝ }
+    ensures { λ r. ⌜ ((k : ℕ) → digit r k ≡ (digit word k || eqb k i)) ⌝ }
+{
+    word | (1 << i)
+}
+
+// The group with member j put in where `on`; no group has a member 1024 or beyond. Words that are a group's stay so.
+pub fn with(words: [u64; 16], j: usize, on: bool) -> [u64; 16]
+    ensures { λ r. ⌜ ((i : ℕ) → bit r i ≡ (bit words i || (on && (eqb i j && ltb j 1024)))) ⌝ }
+    ensures { λ r. ⌜ (words ≡ wordsOf (bit words) → r ≡ wordsOf (bit r)) ⌝ }
+{
+    let mut more = words;
+    if on && j < 1024 {
+        more[j / 64] = set_in_word(words[j / 64], j % 64);
+    }
+    more
 }
 
 // How many bits of a word are set.

@@ -1,2 +1,3 @@
 mod Arcs
+pub mod Range
 pub mod Opened

@@ -1,1 +1,4 @@
 pub mod OneToOne
+mod AuditAnswer
+mod NamedSize
+mod Total

@@ -4,13 +4,16 @@ use mathlib.Core.Path.{_≡_, refl, sym, ap, _∙_}
 use Rattle.answers.specs.Answer.{Answer, value, refusal}
 use Rattle.answers.specs.Needs.{NeedsValue}
 use Rattle.answers.specs.GroupCost.{GroupCostValue}
-use Rattle.engine.specs.Outcomes.{memberCountOf, needsOf, groupCostOf}
+use Rattle.answers.specs.Audit.{Verdict, wrongTotal, objection, pass}
+use Rattle.engine.specs.Outcomes.{memberCountOf, needsOf, groupCostOf, auditOf}
 use Rattle.engine.specs.declared.members.MemberCount.{MemberCount}
 use Rattle.engine.specs.declared.members.MemberCount.the-variants.{Members, Refused as NoMembers}
 use Rattle.engine.specs.declared.needs.NeedsFound.{NeedsFound}
 use Rattle.engine.specs.declared.needs.NeedsFound.the-variants.{Needs, Refused as NoNeeds}
 use Rattle.engine.specs.declared.group.GroupCost.{GroupCost}
 use Rattle.engine.specs.declared.group.GroupCost.the-variants.{Cost, Refused as NoCost}
+use Rattle.engine.specs.declared.verdict.AuditFound.{AuditFound}
+use Rattle.engine.specs.declared.verdict.AuditFound.the-variants.{WrongTotal, Objection, Pass, Refused as NoAudit}
 
 read-back : {A B : Type 0} (of : A → B) (back : B → A) → ((a : A) → back (of a) ≡ a) → (a b : A) → of a ≡ of b → a ≡ b
 read-back of back is a b e = sym (is a) ∙ ap back e ∙ is b
@@ -47,3 +50,18 @@ cost-is (NoCost r) = refl
 
 pub group-cost-one-to-one : (a b : GroupCost) → groupCostOf a ≡ groupCostOf b → a ≡ b
 group-cost-one-to-one = read-back groupCostOf cost-back cost-is
+
+abbrev audit-back : Answer Verdict → AuditFound
+audit-back (value (wrongTotal difference)) = WrongTotal difference
+audit-back (value (objection amount size)) = Objection amount size
+audit-back (value pass) = Pass
+audit-back (refusal number place) = NoAudit (record { number = number; place = place })
+
+audit-is : (a : AuditFound) → audit-back (auditOf a) ≡ a
+audit-is (WrongTotal difference) = refl
+audit-is (Objection amount size) = refl
+audit-is Pass = refl
+audit-is (NoAudit r) = refl
+
+pub audit-one-to-one : (a b : AuditFound) → auditOf a ≡ auditOf b → a ≡ b
+audit-one-to-one = read-back auditOf audit-back audit-is

@@ -3,12 +3,15 @@ use Prim.Native.Nat.{ℕ}
 use Rattle.answers.specs.Answer.{Answer, value, refusal}
 use Rattle.answers.specs.Needs.{NeedsValue}
 use Rattle.answers.specs.GroupCost.{GroupCostValue}
+use Rattle.answers.specs.Audit.{Verdict, wrongTotal, objection, pass}
 use Rattle.engine.specs.declared.members.MemberCount.{MemberCount}
 use Rattle.engine.specs.declared.members.MemberCount.the-variants.{Members, Refused as NoMembers}
 use Rattle.engine.specs.declared.needs.NeedsFound.{NeedsFound}
 use Rattle.engine.specs.declared.needs.NeedsFound.the-variants.{Needs, Refused as NoNeeds}
 use Rattle.engine.specs.declared.group.GroupCost.{GroupCost}
 use Rattle.engine.specs.declared.group.GroupCost.the-variants.{Cost, Refused as NoCost}
+use Rattle.engine.specs.declared.verdict.AuditFound.{AuditFound}
+use Rattle.engine.specs.declared.verdict.AuditFound.the-variants.{WrongTotal, Objection, Pass, Refused as NoAudit}
 
 abbrev pub memberCountOf : MemberCount → Answer ℕ
 memberCountOf (Members n) = value n
@@ -21,3 +24,9 @@ needsOf (NoNeeds r) = refusal (r .number) (r .place)
 abbrev pub groupCostOf : GroupCost → Answer GroupCostValue
 groupCostOf (Cost size cost) = value (record { size = size; cost = cost })
 groupCostOf (NoCost r) = refusal (r .number) (r .place)
+
+abbrev pub auditOf : AuditFound → Answer Verdict
+auditOf (WrongTotal difference) = value (wrongTotal difference)
+auditOf (Objection amount size) = value (objection amount size)
+auditOf Pass = value pass
+auditOf (NoAudit r) = refusal (r .number) (r .place)

@@ -2,6 +2,7 @@
 mod group;
 mod members;
 mod needs;
+mod verdict;
 
 pub use checks::Checked;
 pub use checks::Refusal;
@@ -13,3 +14,7 @@ pub use members::count_members;
 pub use members::list_members;
 pub use needs::NeedsFound;
 pub use needs::list_needs;
+pub use proposal::check_proposal;
+pub use verdict::AuditFound;
+pub use verdict::Audited;
+pub use verdict::audit;

@@ -1,13 +1,13 @@
 -- At or below: its laws, and the vertices at or below k as k itself and, apart, those at or below its children.
 use Prim.Native.Nat.{ℕ, zero, suc, _+_, _≤_, _<_}
 use mathlib.Core.Path.{_≡_, refl, sym, ap, _∙_, subst}
-use mathlib.Core.Bool.{Bool, true, false, _&&_, _||_}
+use mathlib.Core.Bool.{Bool, true, _||_}
 use mathlib.Core.Logic.{_⊎_, inl, inr, ⊎-elim}
 use native.Mathlib.Nat.{le-refl, zero-add}
 use native.Mathlib.Omega.{arith}
 use borrow.Author.Tests.{eqb-true, eq-eqb, ne-eqb}
 use lib.Dec.{eqb}
-use Rattle.game.specs.Sum.{pick, sum, some}
+use Rattle.game.specs.Sum.{pick, sum}
 use Rattle.game.specs.Network.{Network, climb, atOrBelow, sumBelow}
 use Rattle.game.proofs.Bools.{or-first, or-second, or-cases, eqb-comm, pick-either, pick-no, pick-zero, pick-add, pick-yes, pick-swap}
 use Rattle.game.proofs.Sums.{In, sum-cong, sum-add, sum-zero, sum-swap, sum-pick, sum-at}
@@ -39,6 +39,10 @@ module _ (n : Network) (rooted : Rooted n) where
 
   pub from-source : (P : ℕ → Type 0) → P 0 → ((v : ℕ) → P (n .parent (suc v)) → P (suc v)) → (v : ℕ) → P v
   from-source P base step v = from-source-to P base step v v (le-refl v)
+
+  pub child-after : (k u : ℕ) → In (n .arcs) u → n .parent u ≡ k → k < u
+  child-after k zero i e = absurd (omega arith)
+  child-after k (suc u) i e = omega (arith, rooted u)
 
   pub below-source : (k : ℕ) → atOrBelow n k 0 ≡ eqb k 0
   unfolding climb
@@ -82,6 +86,21 @@ module _ (n : Network) (rooted : Rooted n) where
       (λ (h′ : atOrBelow n b (n .parent (suc w)) ≡ true). below-parent a w (ih h′))
       (below-cases b w h))
       v
+
+  -- of two arcs above one vertex, one is at or below the other
+  pub below-comparable : (a b v : ℕ) → atOrBelow n a v ≡ true → atOrBelow n b v ≡ true → (atOrBelow n a b ≡ true) ⊎ (atOrBelow n b a ≡ true)
+  below-comparable a b =
+      from-source (λ v. atOrBelow n a v ≡ true → atOrBelow n b v ≡ true → (atOrBelow n a b ≡ true) ⊎ (atOrBelow n b a ≡ true))
+      (λ ha hb. inl (subst (λ (w : ℕ). atOrBelow n a w ≡ true) (sym (eqb-true b 0 (sym (below-source b) ∙ hb))) ha))
+      (λ v ih ha hb.
+      ⊎-elim
+      (λ (e : a ≡ suc v). inr (subst (λ (w : ℕ). atOrBelow n b w ≡ true) (sym e) hb))
+      (λ (ha′ : atOrBelow n a (n .parent (suc v)) ≡ true).
+      ⊎-elim
+      (λ (e : b ≡ suc v). inl (subst (λ (w : ℕ). atOrBelow n a w ≡ true) (sym e) ha))
+      (λ (hb′ : atOrBelow n b (n .parent (suc v)) ≡ true). ih ha′ hb′)
+      (below-cases b v hb))
+      (below-cases a v ha))
 
   -- every vertex is at or below the source
   pub all-below-source : (v : ℕ) → atOrBelow n 0 v ≡ true

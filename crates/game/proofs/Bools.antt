@@ -1,5 +1,5 @@
 -- Laws of tests, and of the amount that a test picks.
-use Prim.Native.Nat.{ℕ, _+_, _≤_, zero-le}
+use Prim.Native.Nat.{ℕ, _+_, _≤_, _<_, zero-le}
 use mathlib.Core.Path.{_≡_, refl, sym, _∙_}
 use mathlib.Core.Bool.{Bool, true, false, not, _&&_, _||_, true≢false, false≢true}
 use mathlib.Core.Logic.{_⊎_, inl, inr, ⊎-elim}
@@ -50,6 +50,14 @@ pub or-cases : (a b : Bool) → (a || b) ≡ true → (a ≡ true) ⊎ (b ≡ tr
 or-cases true b e = inl refl
 or-cases false b e = inr e
 
+pub neither-first : (a b : Bool) → (a || b) ≡ false → a ≡ false
+neither-first true b e = e
+neither-first false b e = refl
+
+pub neither-second : (a b : Bool) → (a || b) ≡ false → b ≡ false
+neither-second true b e = absurd (true≢false e)
+neither-second false b e = e
+
 -- two tests that hold together are equal
 pub same-test : (a b : Bool) → (a ≡ true → b ≡ true) → (b ≡ true → a ≡ true) → a ≡ b
 same-test true b f g = sym (f refl)
@@ -63,6 +71,11 @@ eqb-comm a b =
 pub pick-add : (b : Bool) (x y : ℕ) → pick b (x + y) ≡ pick b x + pick b y
 pick-add true x y = refl
 pick-add false x y = refl
+
+-- what a test picks and what it leaves
+pub pick-parts : (b : Bool) (x : ℕ) → pick b x + pick (not b) x ≡ x
+pick-parts true x = omega arith
+pick-parts false x = omega arith
 
 pub pick-zero : (b : Bool) → pick b 0 ≡ 0
 pick-zero true = refl
@@ -91,6 +104,14 @@ pick-no x e = rw e
 pub pick-le : (b : Bool) (x : ℕ) → pick b x ≤ x
 pick-le true x = le-refl x
 pick-le false x = zero-le
+
+pub pick-pos : (b : Bool) (x : ℕ) → 0 < pick b x → (b ≡ true) × (0 < x)
+pick-pos true x h = (refl, h)
+pick-pos false x h = absurd (omega arith)
+
+pub pick-both-le : (b : Bool) {x y : ℕ} → x ≤ y → pick b x ≤ pick b y
+pick-both-le true h = h
+pick-both-le false h = le-refl 0
 
 pub pick-mono : (a b : Bool) (x : ℕ) → (a ≡ true → b ≡ true) → pick a x ≤ pick b x
 pick-mono true b x f = rw (f refl) (le-refl x)

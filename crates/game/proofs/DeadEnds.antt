@@ -1,5 +1,5 @@
 -- Where the members are the dead ends every arc has a user, so the counted costs are the costs.
-use Prim.Native.Nat.{ℕ, zero, suc, _+_, _≤_, _<_}
+use Prim.Native.Nat.{ℕ, zero, suc, _+_, _≤_}
 use mathlib.Core.Path.{_≡_, refl, ap, _∙_}
 use mathlib.Core.Bool.{true, false, not}
 use mathlib.Core.Logic.{_⊎_, inl, inr, ⊎-elim}
@@ -11,7 +11,7 @@ use Rattle.game.specs.Network.{Network, used, everyone, atCounted, whole
 use Rattle.game.specs.Tree.{Tree, ofArc, hasChild, network}
 use Rattle.game.proofs.Bools.{both, and-both, pick-yes}
 use Rattle.game.proofs.Sums.{In, Some, some-is, sum-cong}
-use Rattle.game.proofs.Below.{Rooted, below-self}
+use Rattle.game.proofs.Below.{Rooted, below-self, child-after}
 use Rattle.game.proofs.Groups.{used-of, used-child, everyone-cost}
 
 -- every vertex from 1 on is a member or has a child
@@ -27,10 +27,6 @@ tree-ends t k i =
     (both (hasChild (t .parents) k))
 
 module _ (n : Network) (rooted : Rooted n) (ends : Ends n) where
-  child-after : (k u : ℕ) → In (n .arcs) u → n .parent u ≡ k → k < u
-  child-after k zero i e = absurd (omega arith)
-  child-after k (suc u) i e = omega (arith, rooted u)
-
   own : (k : ℕ) → In (n .arcs) k → n .member k ≡ true → used n everyone k ≡ true
   own k i m = used-of n (record { by = k; within = i; chosen = refl; uses = and-both m (below-self n rooted k) })
 
@@ -40,7 +36,7 @@ module _ (n : Network) (rooted : Rooted n) (ends : Ends n) where
       ⊎-elim
       (λ (m : n .member k ≡ true). own k i m)
       (λ (s : Some (n .arcs) (λ u. eqb (n .parent u) k)).
-      absurd (omega (arith, child-after k (s .which) (s .within) (eqb-true (n .parent (s .which)) k (s .passes)), s .within .high)))
+      absurd (omega (arith, child-after n rooted k (s .which) (s .within) (eqb-true (n .parent (s .which)) k (s .passes)), s .within .high)))
       (ends k i)
   used-within (suc d) k i h =
       ⊎-elim
@@ -48,7 +44,7 @@ module _ (n : Network) (rooted : Rooted n) (ends : Ends n) where
       (λ (s : Some (n .arcs) (λ u. eqb (n .parent u) k)).
       let e = eqb-true (n .parent (s .which)) k (s .passes) in
       used-child n rooted everyone k (s .which) (s .within) e
-      (used-within d (s .which) (s .within) (omega (arith, child-after k (s .which) (s .within) e))))
+      (used-within d (s .which) (s .within) (omega (arith, child-after n rooted k (s .which) (s .within) e))))
       (ends k i)
 
   pub every-arc-used : (k : ℕ) → In (n .arcs) k → used n everyone k ≡ true

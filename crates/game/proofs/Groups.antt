@@ -6,11 +6,11 @@ use mathlib.Core.Logic.{_⊎_, inl, inr, ⊎-elim}
 use native.Mathlib.Omega.{arith}
 use borrow.Author.Tests.{eqb-true, eq-eqb}
 use lib.Dec.{eqb}
-use Rattle.game.specs.Sum.{pick, sum, some}
+use Rattle.game.specs.Sum.{pick, some}
 use Rattle.game.specs.Network.{Network, atOrBelow, user, used, groupCost, everyone, wholeCost, atCounted}
 use Rattle.game.proofs.Bools.{both, clash, not-so, and-both, and-first, and-second, or-first, or-second, or-cases, same-test, pick-no, pick-mono, pick-two}
 use Rattle.game.proofs.Sums.{In, Some, some-of, some-is, sum-mono, sum-zero, sum-add}
-use Rattle.game.proofs.Below.{Rooted, from-source, below-step, below-self, below-parent, below-trans, below-cases, below-source}
+use Rattle.game.proofs.Below.{Rooted, from-source, below-self, below-parent, below-trans, below-cases, below-source}
 
 module _ (n : Network) where
   -- a member of the group that uses arc k

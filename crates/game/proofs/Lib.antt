@@ -8,3 +8,13 @@ pub mod DeadEnds
 pub mod Sizes
 pub mod Lists
 pub mod Numbering
+pub mod Certificate
+pub mod Excess
+pub mod Integers
+pub mod Overpayment
+pub mod Search
+pub mod ActiveGroup
+pub mod Encoding
+pub mod ExcessOf
+pub mod Bounds
+pub mod Core

@@ -1,5 +1,5 @@
 -- The list f 1, f 2, .., f m by its length and its entries.
-use Prim.Native.Nat.{ℕ, zero, suc, _+_, _<_, _≤_}
+use Prim.Native.Nat.{ℕ, zero, suc, _<_}
 use mathlib.Core.Path.{_≡_, refl, sym, ap, _∙_}
 use mathlib.Core.List.{List, [], _∷_, _++_}
 use native.Mathlib.Decide.{decLt}
@@ -13,7 +13,7 @@ module _ {A : Type 0} (f : ℕ → A) (d : A) where
   list-length zero = refl
   list-length (suc m) = omega (arith, length-append (list m f) (f (suc m) ∷ []), list-length m)
 
-  list-at : (m i : ℕ) → i < m → getD (list m f) i d ≡ f (suc i)
+  pub list-at : (m i : ℕ) → i < m → getD (list m f) i d ≡ f (suc i)
   list-at zero i h = absurd (omega arith)
   list-at (suc m) i h =
       elim (decLt i m) [

@@ -1,11 +1,9 @@
 -- Needs: an arc's need from those of its child arcs, and their bounds.
-use Prim.Native.Nat.{ℕ, _+_, _≤_}
-use mathlib.Core.Path.{_≡_, refl}
-use lib.Dec.{eqb}
-use Rattle.game.specs.Sum.{pick, sum}
-use Rattle.game.specs.Network.{Network, atOrBelow, sumBelow, need, wholeCost}
+use Prim.Native.Nat.{ℕ, _≤_}
+use Rattle.game.specs.Sum.{sum}
+use Rattle.game.specs.Network.{Network, atOrBelow, sumBelow}
 use Rattle.game.proofs.Bools.{pick-le}
-use Rattle.game.proofs.Sums.{In, sum-mono}
+use Rattle.game.proofs.Sums.{sum-mono}
 
 pub sum-below-le : (n : Network) (x : ℕ → ℕ) (k : ℕ) → sumBelow n x k ≤ sum (n .arcs) x
 unfolding sumBelow

@@ -1,16 +1,17 @@
 -- The members' list: its length, and where a member stands in it.
-use Prim.Native.Nat.{ℕ, zero, suc, pred, _+_, _≤_, _<_}
+use Prim.Native.Nat.{ℕ, zero, suc, pred, _+_, _<_}
 use mathlib.Core.Path.{_≡_, refl, sym, ap, ap₂, _∙_}
 use mathlib.Core.Bool.{Bool, true, false}
 use mathlib.Core.Logic.{⊎-elim}
 use mathlib.Core.List.{List, [], _∷_, _++_}
+use native.Mathlib.Decide.{decLt}
 use native.Mathlib.Omega.{arith}
 use lib.ListN.{length, getD, length-append, List·getD-append}
 use lib.Seq.{getD-at}
 use Rattle.game.specs.Sum.{pick, count}
 use Rattle.game.specs.Network.{membersTo}
-use Rattle.game.proofs.Bools.{both}
-use Rattle.game.proofs.Sums.{In, in-cases, sum-longer}
+use Rattle.game.proofs.Bools.{both, pick-pos, pick-yes}
+use Rattle.game.proofs.Sums.{In, in-cases, in-last, in-more, sum-longer}
 
 module _ (m : ℕ → Bool) where
   pub members-yes : (v : ℕ) → m (suc v) ≡ true → membersTo m (suc v) ≡ membersTo m v ++ (suc v ∷ [])
@@ -35,7 +36,7 @@ module _ (m : ℕ → Bool) where
       (both (m (suc v)))
 
   -- how many members come before a member
-  before-member : (v : ℕ) → 0 < v → m v ≡ true → suc (count (pred v) m) ≡ count v m
+  pub before-member : (v : ℕ) → 0 < v → m v ≡ true → suc (count (pred v) m) ≡ count v m
   before-member zero h e = absurd (omega arith)
   before-member (suc v) h e = rw e (omega arith)
 
@@ -57,3 +58,21 @@ module _ (m : ℕ → Bool) where
       ap₂ (λ (l : List ℕ) (u : ℕ). getD l (count (pred u) m) 0) (members-yes n (sym (ap m d) ∙ e)) d
       ∙ getD-at (membersTo m n) (suc n) [] 0 (count n m) (members-length n)
       ∙ sym d)
+
+  -- the vertex of a member number
+  pub record Vertex (n j : ℕ) : Type 0 where
+    pub vertex : ℕ
+    pub within : In n vertex
+    pub is-member : m vertex ≡ true
+    pub numbered : count (pred vertex) m ≡ j
+
+  pub vertex-of : (n j : ℕ) → j < count n m → Vertex n j
+  vertex-of zero j h = absurd (omega arith)
+  vertex-of (suc n) j h =
+      elim (decLt j (count n m)) [
+        | yes l ↦
+            let v = vertex-of n j l in record { vertex = v .vertex; within = in-more (v .within); is-member = v .is-member; numbered = v .numbered }
+        | no l ↦
+            let p = pick-pos (m (suc n)) 1 (omega arith) in
+            record { vertex = suc n; within = in-last n; is-member = p .0; numbered = omega (arith, pick-yes 1 (p .0)) }
+      ]

@@ -1,15 +1,15 @@
 -- Laws of sums and tests over 1 to m.
 use Prim.Native.Nat.{ℕ, zero, suc, _+_, _*_, _≤_, _<_, zero-le}
 use mathlib.Core.Path.{_≡_, refl, sym, ap, ap₂, _∙_}
-use mathlib.Core.Bool.{Bool, true, false, _||_, false≢true}
+use mathlib.Core.Bool.{Bool, true, not, _||_, false≢true}
 use mathlib.Core.Logic.{⊎-elim}
 use native.Mathlib.Nat.{le-refl, suc-mul}
-use native.Mathlib.Decide.{decLe}
+use native.Mathlib.Decide.{decLe, decLt}
 use native.Mathlib.Omega.{arith}
-use borrow.Author.Tests.{eq-eqb, ne-eqb}
-use lib.Dec.{eqb}
+use borrow.Author.Tests.{eq-eqb, ne-eqb, lt-ltb}
+use lib.Dec.{eqb, ltb}
 use Rattle.game.specs.Sum.{pick, sum, some}
-use Rattle.game.proofs.Bools.{pick-zero, pick-add, pick-yes, pick-no, or-first, or-second, or-cases}
+use Rattle.game.proofs.Bools.{pick-zero, pick-add, pick-parts, pick-yes, pick-no, or-first, or-second, or-cases}
 
 -- k is one of 1 to m
 pub record In (m k : ℕ) : Type 0 where
@@ -51,6 +51,11 @@ sum-pick b (suc m) f = ap (λ (s : ℕ). s + pick b (f (suc m))) (sum-pick b m f
 -- the last of the numbers, or one before it
 pub in-cases : {A : Type 0} (m k : ℕ) → In (suc m) k → (In m k → A) → (k ≡ suc m → A) → A
 in-cases m k i before last = elim (decLe k m) [ yes h ↦ before (omega arith) | no h ↦ last (omega arith) ]
+
+-- what a test picks and what it leaves
+pub sum-parts : (m : ℕ) (s : ℕ → Bool) (f : ℕ → ℕ) → sum m (λ k. pick (s k) (f k)) + sum m (λ k. pick (not (s k)) (f k)) ≡ sum m f
+sum-parts m s f =
+    sym (sum-add m (λ k. pick (s k) (f k)) (λ k. pick (not (s k)) (f k))) ∙ sum-cong m (λ k i. pick-parts (s k) (f k))
 
 -- all terms but one are 0
 pub sum-at : (m k : ℕ) (f : ℕ → ℕ) → In m k → sum m (λ v. pick (eqb k v) (f v)) ≡ f k
@@ -94,14 +99,26 @@ some-of zero k f i e = absurd (omega arith)
 some-of (suc m) k f i e =
     in-cases m k i (λ j. or-first (f (suc m)) (some-of m k f j e)) (λ d. or-second (some m f) (sym (ap f d) ∙ e))
 
+some-more : (m : ℕ) {f : ℕ → Bool} → Some m f → Some (suc m) f
+some-more m s = record { which = s .which; within = in-more (s .within); passes = s .passes }
+
 pub some-is : (m : ℕ) (f : ℕ → Bool) → some m f ≡ true → Some m f
 some-is zero f e = absurd (false≢true e)
 some-is (suc m) f e =
     ⊎-elim
-    (λ (h : some m f ≡ true). let s = some-is m f h in record { which = s .which; within = in-more (s .within); passes = s .passes })
+    (λ (h : some m f ≡ true). some-more m (some-is m f h))
     (λ (h : f (suc m) ≡ true). record { which = suc m; within = in-last m; passes = h })
     (or-cases (some m f) (f (suc m)) e)
 
 pub some-cong : (m : ℕ) {f g : ℕ → Bool} → ((k : ℕ) → In m k → f k ≡ g k) → some m f ≡ some m g
 some-cong zero h = refl
 some-cong (suc m) h = ap₂ (λ (a b : Bool). a || b) (some-cong m (λ k i. h k (in-more i))) (h (suc m) (in-last m))
+
+-- a sum above 0 has a term above 0
+pub sum-pos : (m : ℕ) (f : ℕ → ℕ) → 0 < sum m f → Some m (λ k. ltb 0 (f k))
+sum-pos zero f h = absurd (omega arith)
+sum-pos (suc m) f h =
+    elim (decLt 0 (f (suc m))) [
+      | yes l ↦ record { which = suc m; within = in-last m; passes = lt-ltb 0 (f (suc m)) l }
+      | no l ↦ some-more m (sum-pos m f (omega arith))
+    ]

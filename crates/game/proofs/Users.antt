@@ -1,12 +1,12 @@
 -- The users of an arc: the member itself, or, apart, the users of its child arcs.
 use Prim.Native.Nat.{ℕ, _+_}
-use mathlib.Core.Path.{_≡_, refl, sym, ap, _∙_}
-use mathlib.Core.Bool.{Bool, true, false, _&&_}
+use mathlib.Core.Path.{_≡_, sym, ap, _∙_}
+use mathlib.Core.Bool.{true, false, _&&_}
 use mathlib.Core.Logic.{⊎-elim}
 use native.Mathlib.Nat.{zero-add}
 use borrow.Author.Tests.{eqb-true, eq-eqb}
 use lib.Dec.{eqb}
-use Rattle.game.specs.Sum.{pick, sum, count, some}
+use Rattle.game.specs.Sum.{pick, count, some}
 use Rattle.game.specs.Network.{Network, atOrBelow, user}
 use Rattle.game.proofs.Bools.{both, clash, not-so, and-both, and-first, and-second, same-test, pick-no, pick-zero, pick-and}
 use Rattle.game.proofs.Sums.{In, Some, sum-cong, sum-zero, some-of}

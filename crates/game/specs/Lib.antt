@@ -2,3 +2,6 @@ pub mod Sum
 pub mod Network
 pub mod Tree
 pub mod Group
+pub mod Proposal
+pub mod Search
+pub mod Core

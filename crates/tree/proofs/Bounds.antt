@@ -1,29 +1,7 @@
--- What an accepted tree gives the passes: a sound parent list, and a bound on all sums of costs.
-use Prim.Native.Nat.{_≤_}
-use mathlib.Core.Bool.{not}
-use native.Mathlib.Omega.{arith}
-use lib.ListN.{length}
-use Rattle.game.specs.Sum.{pick}
-use Rattle.game.specs.Network.{wholeCost, memberCount}
-use Rattle.game.specs.Tree.{Tree, network, ofArc, hasChild}
-use Rattle.game.proofs.Bools.{pick-le}
-use Rattle.game.proofs.Sums.{sum-bound}
-use Rattle.answers.specs.Checks.{mostCost}
+-- An accepted tree has a sound parent list.
+use Rattle.game.specs.Tree.{Tree}
 use Rattle.answers.proofs.Accepted.{Accepted}
 use Rattle.tree.specs.Passes.{Sound}
 
-module _ (t : Tree) (ok : Accepted t) where
-  pub sound : Sound (t .parents)
-  sound = record { few = ok .few; rising = ok .rooted }
-
-  pub whole-bound : wholeCost (network t) ≤ 1023000000000
-  unfolding wholeCost
-  whole-bound = omega (arith, sum-bound (length (t .parents)) mostCost {f = ofArc (t .costs)} (λ k i. ok .limited k), ok .few)
-
-  pub members-bound : memberCount (network t) ≤ 1023
-  members-bound =
-      omega (
-        arith,
-        sum-bound (length (t .parents)) 1 {f = λ v. pick (not (hasChild (t .parents) v)) 1} (λ v i. pick-le (not (hasChild (t .parents) v)) 1),
-        ok .few,
-      )
+pub sound : (t : Tree) → Accepted t → Sound (t .parents)
+sound t ok = record { few = ok .few; rising = ok .rooted }

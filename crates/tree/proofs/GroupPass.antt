@@ -1,5 +1,5 @@
 -- A group's cost in a pass from the last arc down that carries to each arc's parent that the arc is used.
-use Prim.Native.Nat.{ℕ, zero, suc, pred, _+_, _-_, _≤_, _<_}
+use Prim.Native.Nat.{ℕ, suc, _+_, _-_, _≤_}
 use mathlib.Core.Path.{_≡_, refl, sym, ap, ap₂, _∙_, subst}
 use mathlib.Core.Bool.{Bool, true, false, not, cond, _&&_, _||_}
 use mathlib.Core.Logic.{⊎-elim}
@@ -8,18 +8,18 @@ use native.Mathlib.Nat.{zero-add}
 use native.Mathlib.Omega.{arith}
 use lib.ListN.{length, getD, set, replicate}
 use lib.Dec.{eqb}
-use Rattle.game.specs.Sum.{pick, sum, count, some}
-use Rattle.game.specs.Network.{Network, used, groupCost, wholeCost, number, memberCount}
+use Rattle.game.specs.Sum.{pick, sum, some}
+use Rattle.game.specs.Network.{used, groupCost, wholeCost, number, memberCount}
 use Rattle.game.specs.Tree.{Tree, network, ofArc, hasChild}
 use Rattle.game.specs.Group.{bit, byNumber}
 use Rattle.game.proofs.Bools.{both, clash, not-so, and-first, and-true, and-false, pick-le}
 use Rattle.game.proofs.Sums.{In, some-of, some-is, sum-mono}
 use Rattle.game.proofs.Groups.{used-children}
 use Rattle.answers.proofs.Accepted.{Accepted}
-use Rattle.tree.specs.Passes.{Sound}
-use Rattle.tree.proofs.Carry.{flags, child, children, Carried, carried-start, carried-at, carried-on, or-none}
-use Rattle.tree.proofs.MemberPass.{Met, met-at, met-on, isMember}
-use Rattle.tree.proofs.Bounds.{sound, whole-bound}
+use Rattle.tree.proofs.Carry.{flags, Carried, carried-start, carried-at, carried-on, or-none}
+use Rattle.tree.proofs.MemberPass.{Left, left-start, left-known, left-room, left-number, left-on}
+use Rattle.answers.proofs.Limits.{whole-bound}
+use Rattle.tree.proofs.Bounds.{sound}
 
 has-child-of : (ps : List ℕ) (u v : ℕ) → In (length ps) u → eqb (ofArc ps u) v ≡ true → hasChild ps v ≡ true
 unfolding hasChild
@@ -35,9 +35,8 @@ module _ (t : Tree) (words : List ℕ) where
 
   -- with the arcs 1 to k still to come: j members among them, and what they cost the group
   pub record Costing (has users : List Bool) (j cost k : ℕ) : Type 0 where
-    pub met : Met (t .parents) k has
+    pub members : Left (t .parents) has j k
     pub carried : Carried flags (t .parents) inUse k users
-    pub left : j ≡ count k (isMember (t .parents))
     pub costed : cost + sum k (λ u. pick (inUse u) (ofArc (t .costs) u)) ≡ groupCost (network t) chosen
 
 module _ (t : Tree) (words : List ℕ) (ok : Accepted t) where
@@ -46,9 +45,8 @@ module _ (t : Tree) (words : List ℕ) (ok : Accepted t) where
   costing-start e l =
       rw (e, l)
       (record {
-        met = carried-start flags (t .parents) (λ v. true);
+        members = left-start (t .parents) refl refl;
         carried = carried-start flags (t .parents) (inUse t words);
-        left = refl;
         costed = zero-add (sum (length (t .parents)) (λ u. pick (inUse t words u) (ofArc (t .costs) u)));
       })
 
@@ -66,11 +64,8 @@ module _ (t : Tree) (words : List ℕ) (ok : Accepted t) where
       )
 
   module _ (k i : ℕ) (within : k ≤ length (t .parents)) (next : k ≡ suc i) {has users : List Bool} {j cost : ℕ} (s : Costing t words has users j cost k) where
-    met-here : Met (t .parents) (suc i) has
-    met-here = subst (λ (u : ℕ). Met (t .parents) u has) next (s .met)
-
     known : getD has k false ≡ hasChild (t .parents) (suc i)
-    known = ap (λ (u : ℕ). getD has u false) next ∙ met-at (t .parents) (sound t ok) i (omega arith) has met-here
+    known = left-known (t .parents) (sound t ok) k i within next (s .members) ∙ ap (hasChild (t .parents)) next
 
     carried-here : Carried flags (t .parents) (inUse t words) (suc i) users
     carried-here = subst (λ (u : ℕ). Carried flags (t .parents) (inUse t words) u users) next (s .carried)
@@ -88,22 +83,11 @@ module _ (t : Tree) (words : List ℕ) (ok : Accepted t) where
           ap (λ (u : ℕ). sum u (λ u. pick (inUse t words u) (ofArc (t .costs) u))) next,
         )
 
-    -- the members still to come, with the arc's own and without
-    one-less : (w : ℕ) → w ≡ pick (not (getD has k false)) 1 → j ≡ count i (isMember (t .parents)) + w
-    one-less w e =
-        s .left
-        ∙ ap (λ (u : ℕ). count u (isMember (t .parents))) next
-        ∙ ap (λ (x : ℕ). count i (isMember (t .parents)) + x) (ap (λ (b : Bool). pick (not b) 1) (sym known) ∙ sym e)
-
     pub costing-room : (w : ℕ) → w ≡ pick (not (getD has k false)) 1 → w ≤ j
-    costing-room w e = omega (arith, one-less w e)
+    costing-room = left-room (t .parents) (sound t ok) k i within next (s .members)
 
-    -- the number of a member that is met
     pub costing-number : (w : ℕ) → w ≡ pick (not (getD has k false)) 1 → j - w ≡ number (network t) k
-    costing-number w e =
-        let before : i ≡ pred k = omega arith in
-        let rest : j - w ≡ count i (isMember (t .parents)) = omega (arith, one-less w e) in
-        rest ∙ ap (λ (u : ℕ). count u (isMember (t .parents))) before
+    costing-number = left-number (t .parents) (sound t ok) k i within next (s .members)
 
     -- at a member by its bit, elsewhere by a child arc
     pub costing-used : (n : ℕ) → n ≡ number (network t) k → cond (getD has k false) (getD users k false) (bit words n) ≡ inUse t words k
@@ -143,10 +127,9 @@ module _ (t : Tree) (words : List ℕ) (ok : Accepted t) where
         → Costing t words (set has (getD (t .parents) i 0) true) (set users (getD (t .parents) i 0) up) (j - w) (cost + paid) i
     costing-on {w} {paid} {here} {up} ew eh ep eu =
         record {
-          met = met-on (t .parents) (sound t ok) i (omega arith) has met-here;
+          members = left-on (t .parents) (sound t ok) k i within next (s .members) w ew;
           carried =
               carried-on flags (t .parents) (inUse t words) (sound t ok) i (omega arith) users carried-here up
               (eu ∙ ap (λ (b : Bool). getD users (getD (t .parents) i 0) false || b) (eh ∙ ap (inUse t words) next));
-          left = omega (arith, one-less w ew);
           costed = ap (λ (x : ℕ). cost + x + sum i (λ u. pick (inUse t words u) (ofArc (t .costs) u))) ep ∙ costed-on here eh;
         }

@@ -1,7 +1,7 @@
 -- The members in a pass from the last arc down: which vertices have a child, how many members there are, and their list.
-use Prim.Native.Nat.{ℕ, zero, suc, _+_, _-_, _≤_, _<_}
+use Prim.Native.Nat.{ℕ, suc, pred, _+_, _-_, _≤_, _<_}
 use mathlib.Core.Path.{_≡_, refl, sym, ap, ap₂, _∙_, subst}
-use mathlib.Core.Bool.{Bool, true, false, not, cond, _&&_}
+use mathlib.Core.Bool.{Bool, true, false, not, cond}
 use mathlib.Core.Logic.{⊎-elim}
 use mathlib.Core.List.{List, [], _∷_, _++_, append-assoc, append-nil}
 use native.Mathlib.Nat.{zero-add}
@@ -16,7 +16,7 @@ use Rattle.game.proofs.Bools.{both, and-true, or-second}
 use Rattle.game.proofs.Sums.{some-cong}
 use Rattle.game.proofs.Numbering.{members-yes, members-no, members-length}
 use Rattle.tree.specs.Passes.{Sound}
-use Rattle.tree.proofs.Carry.{flags, children, Carried, carried-start, carried-at, carried-on}
+use Rattle.tree.proofs.Carry.{flags, or-none, children, Carried, carried-start, carried-at, carried-on}
 
 -- the list from a place on that has just been written
 drop-set : (l : List ℕ) (i x : ℕ) → i < length l → drop i (set l i x) ≡ x ∷ drop (suc i) l
@@ -73,6 +73,46 @@ module _ (ps : List ℕ) where
       where
         at-next : Met (suc j) has
         at-next = subst (λ (i : ℕ). Met i has) next (c .met)
+
+  -- j members stand at the vertices 1 to k, which are still to come
+  pub record Left (has : List Bool) (j k : ℕ) : Type 0 where
+    pub met : Met k has
+    pub left : j ≡ count k isMember
+
+  pub left-start : {j k : ℕ} → k ≡ length ps → j ≡ count (length ps) isMember → Left (replicate 1024 false) j k
+  left-start e l = rw (e, l) (record { met = carried-start flags ps everyone; left = refl })
+
+  -- after the last arc it is known of every vertex
+  pub left-end : {has : List Bool} {j k : ℕ} → k ≡ 0 → Left has j k → (v : ℕ) → v < 1024 → getD has v false ≡ hasChild ps v
+  left-end {has} e l v h =
+      sym (or-none (getD has v false)) ∙ subst (λ (i : ℕ). Met i has) e (l .met) .lacks v h ∙ met-children v
+
+  module _ (sound : Sound ps) (k i : ℕ) (within : k ≤ length ps) (next : k ≡ suc i) {has : List Bool} {j : ℕ} (l : Left has j k) where
+    met-next : Met (suc i) has
+    met-next = subst (λ (u : ℕ). Met u has) next (l .met)
+
+    -- of the next arc's vertex it is known whether it has a child
+    pub left-known : getD has k false ≡ hasChild ps k
+    left-known = ap (λ (u : ℕ). getD has u false) next ∙ met-at sound i (omega arith) has met-next ∙ ap (hasChild ps) (sym next)
+
+    one-less : (w : ℕ) → w ≡ pick (not (getD has k false)) 1 → j ≡ count i isMember + w
+    one-less w e =
+        l .left
+        ∙ ap (λ (u : ℕ). count u isMember) next
+        ∙ ap (λ (x : ℕ). count i isMember + x) (ap (λ (b : Bool). pick (not b) 1) (ap (hasChild ps) (sym next) ∙ sym left-known) ∙ sym e)
+
+    pub left-room : (w : ℕ) → w ≡ pick (not (getD has k false)) 1 → w ≤ j
+    left-room w e = omega (arith, one-less w e)
+
+    -- the number of a member that is met
+    pub left-number : (w : ℕ) → w ≡ pick (not (getD has k false)) 1 → j - w ≡ count (pred k) isMember
+    left-number w e =
+        let before : i ≡ pred k = omega arith in
+        let rest : j - w ≡ count i isMember = omega (arith, one-less w e) in
+        rest ∙ ap (λ (u : ℕ). count u isMember) before
+
+    pub left-on : (w : ℕ) → w ≡ pick (not (getD has k false)) 1 → Left (set has (getD ps i 0) true) (j - w) i
+    left-on w e = record { met = met-on sound i (omega arith) has met-next; left = omega (arith, one-less w e) }
 
   -- the list's places from j on hold the members that have been met, and those up to k are still to come
   pub record Listing (out : List ℕ) (has : List Bool) (j k : ℕ) : Type 0 where

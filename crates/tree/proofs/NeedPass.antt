@@ -1,5 +1,5 @@
 -- The needs in a pass from the last arc down that carries each need to the arc's parent.
-use Prim.Native.Nat.{ℕ, zero, suc, _+_, _*_, _≤_, _<_}
+use Prim.Native.Nat.{ℕ, suc, _+_, _≤_, _<_}
 use mathlib.Core.Path.{_≡_, refl, sym, ap, _∙_, subst}
 use mathlib.Core.List.{List}
 use native.Mathlib.Decide.{ℕ-discrete}
@@ -7,17 +7,16 @@ use native.Mathlib.Omega.{arith}
 use borrow.Author.Tests.{eq-eqb}
 use lib.ListN.{length, getD, set, replicate, length-set}
 use lib.Seq.{getD-set-same, getD-set-other}
-use lib.Dec.{eqb}
-use Rattle.game.specs.Sum.{pick, sum, list}
-use Rattle.game.specs.Network.{Network, need, wholeCost, sumBelow}
+use Rattle.game.specs.Sum.{sum, list}
+use Rattle.game.specs.Network.{need, wholeCost}
 use Rattle.game.specs.Tree.{Tree, network, ofArc}
 use Rattle.game.proofs.Bools.{pick-yes}
-use Rattle.game.proofs.Sums.{In}
-use Rattle.game.proofs.Below.{Rooted, sum-below-children, sum-from-source}
+use Rattle.game.proofs.Below.{sum-below-children, sum-from-source}
 use Rattle.game.proofs.Needs.{sum-below-le}
 use Rattle.game.proofs.Lists.{list-is}
 use Rattle.answers.proofs.Accepted.{Accepted}
-use Rattle.tree.proofs.Bounds.{sound, whole-bound}
+use Rattle.answers.proofs.Limits.{whole-bound}
+use Rattle.tree.proofs.Bounds.{sound}
 use Rattle.tree.proofs.Carry.{amounts, child, children, Carried, carried-start, carried-at, carried-on}
 
 module _ (t : Tree) where

@@ -3,8 +3,11 @@
 mod group;
 mod members;
 mod needs;
+mod whole;
 
 pub use group::cost_of;
 pub use members::count_members;
+pub use members::one_if_member;
 pub use members::write_members;
 pub use needs::write_needs;
+pub use whole::whole_cost;

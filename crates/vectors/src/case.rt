@@ -1,7 +1,13 @@
-// One case: a command, a tree, and for some commands one field more.
+// One case: a command, a tree, and for some commands one field more; or a number of members and a proposal.
 use crate::print;
-use crate::read;
-use crate::read::MOST;
+use cases::field;
+use cases::list;
+use cases::list::MOST;
+use cases::number;
+use cases::print::text;
+ghost use Prim.Native.Nat.{_≤_};
+ghost use lib.ListN.{length};
+ghost use Rattle.cases.specs.Lists.{MOST};
 
 // The words of a group.
 const WORDS: usize = 16;
@@ -12,26 +18,22 @@ enum Command {
     Members,
     Needs,
     Group,
+    Audit,
+    Shares,
     Unknown,
 }
 
 fn command_named(name: &[u8]) -> Command {
-    if check::same(name, b"check") {
-        return Command::Check;
+    match field::find(b"check count members needs group audit shares", 7, name) {
+        0 => Command::Check,
+        1 => Command::Count,
+        2 => Command::Members,
+        3 => Command::Needs,
+        4 => Command::Group,
+        5 => Command::Audit,
+        6 => Command::Shares,
+        _ => Command::Unknown,
     }
-    if check::same(name, b"count") {
-        return Command::Count;
-    }
-    if check::same(name, b"members") {
-        return Command::Members;
-    }
-    if check::same(name, b"needs") {
-        return Command::Needs;
-    }
-    if check::same(name, b"group") {
-        return Command::Group;
-    }
-    Command::Unknown
 }
 
 // How many fields a command's line has; none is right for an unknown command.
@@ -42,24 +44,27 @@ fn fields(c: Command) -> usize {
         Command::Members => 4,
         Command::Needs => 4,
         Command::Group => 4,
+        Command::Audit => 4,
+        Command::Shares => 3,
         Command::Unknown => 0,
     }
 }
 
 // The list is printed after a refusal too, which leaves it as it came.
-fn list_members(parents: &[u16], costs: &[u32], out: &mut [u16]) {
+fn list_members(parents: &[u16], costs: &[u32], out: &mut [u16])
+    requires { ⌜ length (now out) ≤ MOST ⌝ }
+{
     print::member_count(engine::list_members(parents, costs, out));
-    print::text(b": ");
-    print::list16(out);
+    cases::print::list16(out);
 }
 
 // The last field is the output list's length; each of its entries is 9 before the call.
 fn members(parents: &[u16], costs: &[u32], length: &[u8]) {
-    let wanted = read::output_length(length);
+    let wanted = number::up_to(length, MOST as u64);
     if !wanted.readable {
         return print::bad_case();
     }
-    let n = wanted.count;
+    let n = wanted.value as usize;
     let mut out = [9u16; MOST];
     list_members(parents, costs, &mut out[0..n]);
 }
@@ -67,28 +72,37 @@ fn members(parents: &[u16], costs: &[u32], length: &[u8]) {
 // As list_members.
 fn list_needs(parents: &[u16], costs: &[u32], out: &mut [u64]) {
     print::needs_found(engine::list_needs(parents, costs, out));
-    print::text(b": ");
-    print::list64(out);
+    cases::print::list(out);
 }
 
 // As members.
 fn needs(parents: &[u16], costs: &[u32], length: &[u8]) {
-    let wanted = read::output_length(length);
+    let wanted = number::up_to(length, MOST as u64);
     if !wanted.readable {
         return print::bad_case();
     }
-    let n = wanted.count;
+    let n = wanted.value as usize;
     let mut out = [9u64; MOST];
     list_needs(parents, costs, &mut out[0..n]);
 }
 
 fn group(parents: &[u16], costs: &[u32], words: &[u8]) {
     let mut group = [0u64; WORDS];
-    let found = read::list64(words, &mut group);
+    let found = list::read(words, u64::MAX, &mut group);
     if found.count != WORDS {
         return print::bad_case();
     }
     print::group_cost(engine::group_cost(parents, costs, group));
+}
+
+fn audit(parents: &[u16], costs: &[u32], shares: &[u8]) {
+    let mut proposal = [0i64; MOST];
+    let found = list::read_signed(shares, &mut proposal);
+    if !found.readable {
+        return print::bad_case();
+    }
+    let n = found.count;
+    print::audited(engine::audit(parents, costs, &proposal[0..n]));
 }
 
 fn on_tree(c: Command, parents: &[u16], costs: &[u32], last: &[u8]) {
@@ -98,25 +112,26 @@ fn on_tree(c: Command, parents: &[u16], costs: &[u32], last: &[u8]) {
         Command::Members => members(parents, costs, last),
         Command::Needs => needs(parents, costs, last),
         Command::Group => group(parents, costs, last),
-        Command::Unknown => print::bad_case(),
+        Command::Audit => audit(parents, costs, last),
+        _ => print::bad_case(),
     }
 }
 
 // Field 2 has the costs.
 fn with_costs(c: Command, line: &[u8], parents: &[u16]) {
     let mut costs = [0u32; MOST];
-    let found = read::list32(read::field(line, 2), &mut costs);
+    let found = list::read32(field::nth(line, 2), &mut costs);
     if !found.readable {
         return print::bad_case();
     }
     let n = found.count;
-    on_tree(c, parents, &costs[0..n], read::field(line, 3));
+    on_tree(c, parents, &costs[0..n], field::nth(line, 3));
 }
 
 // Field 1 has the parents.
 fn with_tree(c: Command, line: &[u8]) {
     let mut parents = [0u16; MOST];
-    let found = read::list16(read::field(line, 1), &mut parents);
+    let found = list::read16(field::nth(line, 1), &mut parents);
     if !found.readable {
         return print::bad_case();
     }
@@ -124,15 +139,33 @@ fn with_tree(c: Command, line: &[u8]) {
     with_costs(c, line, &parents[0..m]);
 }
 
-fn answer(line: &[u8]) {
-    let c = command_named(read::field(line, 0));
-    if read::has_field(line, fields(c)) {
+// Field 1 is the number of members.
+fn shares(line: &[u8]) {
+    let members = number::up_to(field::nth(line, 1), MOST as u64);
+    let mut proposal = [0i64; MOST];
+    let found = list::read_signed(field::nth(line, 2), &mut proposal);
+    if !members.readable {
         return print::bad_case();
     }
-    with_tree(c, line);
+    if !found.readable {
+        return print::bad_case();
+    }
+    let n = found.count;
+    print::checked(engine::check_proposal(members.value as usize, &proposal[0..n]));
+}
+
+fn answer(line: &[u8]) {
+    let c = command_named(field::nth(line, 0));
+    if field::has(line, fields(c)) {
+        return print::bad_case();
+    }
+    match c {
+        Command::Shares => shares(line),
+        _ => with_tree(c, line),
+    }
 }
 
 pub fn run(line: &[u8]) {
     answer(line);
-    print::text(b"\n");
+    text(b"\n");
 }

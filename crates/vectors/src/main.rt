@@ -1,7 +1,6 @@
 // Runs the engine's entries on the cases of standard input, one a line, and prints a line each.
 mod case;
 mod print;
-mod read;
 
 use libc::STDIN_FILENO;
 ghost use mathlib.Core.Path.{_≡_};

@@ -1,26 +1,18 @@
-// Printing answers and lists to standard output.
+// Printing the engine's answers.
+use cases::print::labelled;
+use cases::print::labelled_signed;
+use cases::print::list;
+use cases::print::text;
 use checks::Checked;
 use checks::Refusal;
+use engine::AuditFound;
+use engine::Audited;
 use engine::GroupCost;
 use engine::MemberCount;
 use engine::NeedsFound;
-use libc::STDOUT_FILENO;
-
-pub fn text(s: &[u8]) {
-    io::write_all(STDOUT_FILENO, s);
-}
-
-fn number(n: u64) {
-    io::print_decimal(STDOUT_FILENO, n);
-}
 
 pub fn bad_case() {
     text(b"bad case");
-}
-
-fn labelled(label: &[u8], n: u64) {
-    text(label);
-    number(n);
 }
 
 fn refusal(r: Refusal) {
@@ -62,39 +54,22 @@ pub fn group_cost(g: GroupCost) {
     }
 }
 
-// Entry i of a list, with a comma before it unless it is the first.
-fn item(i: usize, n: u64) {
-    if 0 < i {
-        text(b",");
-    }
-    number(n);
-}
-
-// What stands for a list with no entries.
-fn empty(length: usize) {
-    if length == 0 {
-        text(b"-");
+fn audit_found(f: AuditFound) {
+    match f {
+        AuditFound::WrongTotal(difference) => labelled_signed(b"total ", difference),
+        AuditFound::Objection { amount, size } => {
+            labelled(b"group ", amount);
+            labelled(b" of ", size as u64);
+        }
+        AuditFound::Pass => text(b"pass"),
+        AuditFound::Refused(r) => refusal(r),
     }
 }
 
-fn wide(n: u16) -> u64 {
-    n as u64
-}
-
-pub fn list16(list: &[u16]) {
-    empty(list.len());
-    let mut i = 0;
-    while i < list.len() {
-        item(i, wide(list[i]));
-        i += 1;
-    }
-}
-
-pub fn list64(list: &[u64]) {
-    empty(list.len());
-    let mut i = 0;
-    while i < list.len() {
-        item(i, list[i]);
-        i += 1;
-    }
+// The words are printed with every answer: they are 0 except in an objection.
+pub fn audited(a: Audited) {
+    let answer = a.answer;
+    let group = a.group;
+    audit_found(answer);
+    list(&group);
 }

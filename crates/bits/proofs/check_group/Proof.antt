@@ -15,23 +15,11 @@ Inv-loop members words j₀ j = groupCheck members words ≡ bitsCheck words (10
 abbrev μ-loop : tie.MeasureT-loop
 μ-loop members words j₀ j = 1024 - j
 
-loop-holds : tie.Need-loop-holds Inv-loop μ-loop
-loop-holds c = search needs
-
-clear-run-requires : tie.Need-clear-run-requires Inv-loop μ-loop
-clear-run-requires c κs = search needs
-
-refuse-requires : tie.Need-refuse-requires Inv-loop μ-loop
-refuse-requires c κs = search needs
-
 returns : tie.Need-returns Inv-loop μ-loop
 returns c =
     let turn = c .before .before in
     let at-loop = turn .before .before in
     c .refuse .ensures ∙ sym (at-loop .loop .inv ∙ bits-found _ (1024 - at-loop .loop .j) (at-loop .loop .j) (omega arith) (turn .clear-run .ensures .none (c .before .if1 .taken)))
-
-add-j : tie.Need-add-j Inv-loop μ-loop
-add-j c = search needs
 
 loop-less : tie.Need-loop-less Inv-loop μ-loop
 loop-less c = omega arith
@@ -52,11 +40,11 @@ check-group-spec =
     (tie.spec
     Inv-loop
     μ-loop
-    loop-holds
-    clear-run-requires
-    refuse-requires
+    (λ c. search needs)
+    (λ c κs. search needs)
+    (λ c κs. search needs)
     returns
-    add-j
+    (λ c. search needs)
     loop-less
     loop-again
     returns-2)

@@ -5,21 +5,6 @@ use Rattle.bits.proofs.Words.{clear-rest}
 use Rattle.bits.proofs.clear_run.Statement.{statement}
 use Rattle.bits.proofs.clear_run.Tie as tie
 
-mul-if1 : tie.Need-mul-if1
-mul-if1 c = search needs
-
-array-read-if1 : tie.Need-array-read-if1
-array-read-if1 c = search needs
-
-shr-if1 : tie.Need-shr-if1
-shr-if1 c = search needs
-
-sub-result : tie.Need-sub-result
-sub-result c = search needs
-
-has-requires : tie.Need-has-requires
-has-requires c κs = search needs
-
 returns : tie.Need-returns
 returns c =
     record {
@@ -42,4 +27,4 @@ returns-3 c =
 pub clear-run-spec : {M : Type 1} → statement M
 clear-run-spec =
     tie.close
-    (tie.spec mul-if1 array-read-if1 shr-if1 sub-result has-requires returns returns-2 returns-3)
+    (tie.spec (λ c. search needs) (λ c. search needs) (λ c. search needs) (λ c. search needs) (λ c κs. search needs) returns returns-2 returns-3)

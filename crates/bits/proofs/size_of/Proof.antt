@@ -4,8 +4,7 @@ use mathlib.Core.Path.{_≡_}
 use native.Mathlib.Omega.{arith}
 use borrow.Author.Needs.{needs}
 use lib.ListN.{getD}
-use Rattle.game.specs.Group.{bit, size}
-use Rattle.bits.specs.Words.{digit}
+use Rattle.game.specs.Group.{digit, bit, size}
 use Rattle.game.proofs.Sizes.{size-le}
 use Rattle.bits.proofs.Words.{size-word}
 use Rattle.bits.proofs.size_of.Statement.{statement}
@@ -21,26 +20,11 @@ loop-holds : tie.Need-loop-holds Inv-loop μ-loop
 unfolding size
 loop-holds c = omega arith
 
-mul-ones-in : tie.Need-mul-ones-in Inv-loop μ-loop
-mul-ones-in c = search needs
-
-array-read-ones-in : tie.Need-array-read-ones-in Inv-loop μ-loop
-array-read-ones-in c = search needs
-
-ones-in-requires : tie.Need-ones-in-requires Inv-loop μ-loop
-ones-in-requires c κs = search needs
-
 add-total : tie.Need-add-total Inv-loop μ-loop
 add-total c =
     let words = c .before .before .before .args .t1 in
     let i = c .before .before .loop .i in
     omega (arith, size-le (64 * i) (bit words), size-le 64 (digit (getD words i 0)))
-
-add-i : tie.Need-add-i Inv-loop μ-loop
-add-i c = search needs
-
-loop-less : tie.Need-loop-less Inv-loop μ-loop
-loop-less c = search needs
 
 loop-again : tie.Need-loop-again Inv-loop μ-loop
 loop-again c = omega (arith, size-word (c .before .before .before .args .t1) (c .before .before .loop .i))
@@ -55,11 +39,11 @@ size-of-spec =
     Inv-loop
     μ-loop
     loop-holds
-    mul-ones-in
-    array-read-ones-in
-    ones-in-requires
+    (λ c. search needs)
+    (λ c. search needs)
+    (λ c κs. search needs)
     add-total
-    add-i
-    loop-less
+    (λ c. search needs)
+    (λ c. search needs)
     loop-again
     returns)

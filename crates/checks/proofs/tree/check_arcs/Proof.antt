@@ -19,37 +19,10 @@ abbrev μ-loop : tie.MeasureT-loop
 loop-holds : tie.Need-loop-holds Inv-loop μ-loop
 loop-holds c = (search needs, search needs, refl)
 
-add-check-arc : tie.Need-add-check-arc Inv-loop μ-loop
-add-check-arc c = search needs
-
-mul-check-arc : tie.Need-mul-check-arc Inv-loop μ-loop
-mul-check-arc c = search needs
-
-shared-slice-read-check-arc : tie.Need-shared-slice-read-check-arc Inv-loop μ-loop
-shared-slice-read-check-arc c = search needs
-
-mul-check-arc-2 : tie.Need-mul-check-arc-2 Inv-loop μ-loop
-mul-check-arc-2 c = search needs
-
-shared-slice-read-check-arc-2 : tie.Need-shared-slice-read-check-arc-2 Inv-loop μ-loop
-shared-slice-read-check-arc-2 c = search needs
-
-check-arc-requires : tie.Need-check-arc-requires Inv-loop μ-loop
-check-arc-requires c κs = search needs
-
-enum-told : tie.Need-enum-told Inv-loop μ-loop
-enum-told c = search needs
-
-enum-told-2 : tie.Need-enum-told-2 Inv-loop μ-loop
-enum-told-2 c = search needs
-
 returns : tie.Need-returns Inv-loop μ-loop
 returns c =
     arcs-stop _ _ _ _ (omega arith) (omega arith) (c .before .before .check-arc .ensures)
     (c .before .before .before .before .before .before .loop .inv .2) (c .enum-told2 .given .1)
-
-add-i : tie.Need-add-i Inv-loop μ-loop
-add-i c = search needs
 
 loop-less : tie.Need-loop-less Inv-loop μ-loop
 loop-less c = omega arith
@@ -69,16 +42,16 @@ check-arcs-spec =
     Inv-loop
     μ-loop
     loop-holds
-    add-check-arc
-    mul-check-arc
-    shared-slice-read-check-arc
-    mul-check-arc-2
-    shared-slice-read-check-arc-2
-    check-arc-requires
-    enum-told
-    enum-told-2
+    (λ c. search needs)
+    (λ c. search needs)
+    (λ c. search needs)
+    (λ c. search needs)
+    (λ c. search needs)
+    (λ c κs. search needs)
+    (λ c. search needs)
+    (λ c. search needs)
     returns
-    add-i
+    (λ c. search needs)
     loop-less
     loop-again
     returns-2)

@@ -1,26 +1,16 @@
-use mathlib.Core.Path.{_≡_}
 use borrow.Author.Needs.{needs}
 use borrow.Author.Tests.{eq-eqb, ne-eqb, lt-ltb, le-ltb}
 use Rattle.answers.specs.Checks.{treeCheck}
 use Rattle.checks.proofs.tree.check_tree.Statement.{statement}
 use Rattle.checks.proofs.tree.check_tree.Tie as tie
 
-refuse-requires : tie.Need-refuse-requires
-refuse-requires c κs = search needs
-
 returns : tie.Need-returns
 unfolding treeCheck
 returns c = simp (eq-eqb _ _ (c .before .if1 .taken)) (c .refuse .ensures)
 
-refuse-requires-2 : tie.Need-refuse-requires-2
-refuse-requires-2 c κs = search needs
-
 returns-2 : tie.Need-returns-2
 unfolding treeCheck
 returns-2 c = simp (ne-eqb _ _ (c .before .before .if1 .left), lt-ltb _ _ (c .before .if2 .taken)) (c .refuse2 .ensures)
-
-refuse-requires-3 : tie.Need-refuse-requires-3
-refuse-requires-3 c κs = search needs
 
 returns-3 : tie.Need-returns-3
 unfolding treeCheck
@@ -28,9 +18,6 @@ returns-3 c =
     simp
     (ne-eqb _ _ (c .before .before .before .if1 .left), le-ltb _ _ (c .before .before .if2 .left), ne-eqb _ _ (c .before .if3 .taken))
     (c .refuse3 .ensures)
-
-check-arcs-requires : tie.Need-check-arcs-requires
-check-arcs-requires c κs = search needs
 
 returns-4 : tie.Need-returns-4
 unfolding treeCheck
@@ -43,11 +30,11 @@ pub check-tree-spec : {M : Type 1} → statement M
 check-tree-spec =
     tie.close
     (tie.spec
-    refuse-requires
+    (λ c κs. search needs)
     returns
-    refuse-requires-2
+    (λ c κs. search needs)
     returns-2
-    refuse-requires-3
+    (λ c κs. search needs)
     returns-3
-    check-arcs-requires
+    (λ c κs. search needs)
     returns-4)

@@ -1,4 +1,4 @@
-use mathlib.Core.Path.{_≡_, ap}
+use mathlib.Core.Path.{_≡_}
 use denote.Ref.{now}
 use borrow.Author.Needs.{needs}
 use Rattle.game.specs.Tree.{treeOf}
@@ -10,18 +10,6 @@ use Rattle.checks.proofs.Opened.{opened, turned-away}
 use Rattle.tree.proofs.Bounds.{sound}
 use Rattle.engine.proofs.members.count_members.Statement.{statement}
 use Rattle.engine.proofs.members.count_members.Tie as tie
-
-check-tree-requires : tie.Need-check-tree-requires
-check-tree-requires c κs = search needs
-
-enum-told : tie.Need-enum-told
-enum-told c = search needs
-
-enum-told-2 : tie.Need-enum-told-2
-enum-told-2 c = search needs
-
-refusal-of-requires : tie.Need-refusal-of-requires
-refusal-of-requires c κs = search needs
 
 returns : tie.Need-returns
 unfolding memberCountAnswer
@@ -40,4 +28,4 @@ returns-2 c = rw (accepted-tree (c .before), c .count-members .ensures)
 pub count-members-spec : {M : Type 1} → statement M
 count-members-spec =
     tie.close
-    (tie.spec check-tree-requires enum-told enum-told-2 refusal-of-requires returns count-members-requires returns-2)
+    (tie.spec (λ c κs. search needs) (λ c. search needs) (λ c. search needs) (λ c κs. search needs) returns count-members-requires returns-2)

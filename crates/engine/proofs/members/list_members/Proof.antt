@@ -15,18 +15,6 @@ use Rattle.tree.proofs.Bounds.{sound}
 use Rattle.engine.proofs.members.list_members.Statement.{statement}
 use Rattle.engine.proofs.members.list_members.Tie as tie
 
-check-tree-requires : tie.Need-check-tree-requires
-check-tree-requires c κs = search needs
-
-enum-told : tie.Need-enum-told
-enum-told c = search needs
-
-enum-told-2 : tie.Need-enum-told-2
-enum-told-2 c = search needs
-
-refusal-of-requires : tie.Need-refusal-of-requires
-refusal-of-requires c κs = search needs
-
 returns : tie.Need-returns
 unfolding membersAnswer membersList
 returns c =
@@ -39,18 +27,6 @@ accepted-tree c = opened (c .before .before .check-tree .ensures) (c .enum-told 
 
 count-members-requires : tie.Need-count-members-requires
 count-members-requires c κs = sound _ (tree-accepted _ (accepted-tree c))
-
-check-output-requires : tie.Need-check-output-requires
-check-output-requires c κs = search needs
-
-enum-told-3 : tie.Need-enum-told-3
-enum-told-3 c = search needs
-
-enum-told-4 : tie.Need-enum-told-4
-enum-told-4 c = search needs
-
-refusal-of-requires-2 : tie.Need-refusal-of-requires-2
-refusal-of-requires-2 c κs = search needs
 
 -- the output check asks for as many places as there are members
 output : (c : tie.After-check-output)
@@ -78,9 +54,6 @@ write-members-requires : tie.Need-write-members-requires
 write-members-requires c κs =
     (sound _ (tree-accepted _ (accepted-tree (c .before .before .before .before .before))), length-accepted _ _ (accepted-output (c .before)))
 
-same-length : tie.Need-same-length
-same-length c = search needs
-
 returns-3 : tie.Need-returns-3
 unfolding membersAnswer membersList
 returns-3 c =
@@ -92,17 +65,17 @@ pub list-members-spec : {M : Type 1} → statement M
 list-members-spec =
     tie.close
     (tie.spec
-    check-tree-requires
-    enum-told
-    enum-told-2
-    refusal-of-requires
+    (λ c κs. search needs)
+    (λ c. search needs)
+    (λ c. search needs)
+    (λ c κs. search needs)
     returns
     count-members-requires
-    check-output-requires
-    enum-told-3
-    enum-told-4
-    refusal-of-requires-2
+    (λ c κs. search needs)
+    (λ c. search needs)
+    (λ c. search needs)
+    (λ c κs. search needs)
     returns-2
     write-members-requires
-    same-length
+    (λ c. search needs)
     returns-3)

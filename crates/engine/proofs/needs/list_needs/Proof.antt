@@ -12,18 +12,6 @@ use Rattle.tree.proofs.Bounds.{sound}
 use Rattle.engine.proofs.needs.list_needs.Statement.{statement}
 use Rattle.engine.proofs.needs.list_needs.Tie as tie
 
-check-tree-requires : tie.Need-check-tree-requires
-check-tree-requires c κs = search needs
-
-enum-told : tie.Need-enum-told
-enum-told c = search needs
-
-enum-told-2 : tie.Need-enum-told-2
-enum-told-2 c = search needs
-
-refusal-of-requires : tie.Need-refusal-of-requires
-refusal-of-requires c κs = search needs
-
 returns : tie.Need-returns
 unfolding needsAnswer needsList
 returns c =
@@ -33,18 +21,6 @@ returns c =
 accepted-tree : (c : tie.After-enum-told)
     → treeCheck (treeOf (now (c .before .before .before .before .before .before .args .parents)) (now (c .before .before .before .before .before .before .args .costs))) ≡ accepted
 accepted-tree c = opened (c .before .before .check-tree .ensures) (c .enum-told .given .1)
-
-check-output-requires : tie.Need-check-output-requires
-check-output-requires c κs = search needs
-
-enum-told-3 : tie.Need-enum-told-3
-enum-told-3 c = search needs
-
-enum-told-4 : tie.Need-enum-told-4
-enum-told-4 c = search needs
-
-refusal-of-requires-2 : tie.Need-refusal-of-requires-2
-refusal-of-requires-2 c κs = search needs
 
 returns-2 : tie.Need-returns-2
 unfolding needsAnswer needsList
@@ -62,9 +38,6 @@ count-members-requires c κs = sound _ (tree-accepted _ (accepted-tree (c .befor
 write-needs-requires : tie.Need-write-needs-requires
 write-needs-requires c κs = (accepted-tree (c .before .before .before .before .before), length-accepted _ _ (accepted-output (c .before .before)))
 
-same-length : tie.Need-same-length
-same-length c = search needs
-
 returns-3 : tie.Need-returns-3
 unfolding needsAnswer needsList
 returns-3 c =
@@ -76,17 +49,17 @@ pub list-needs-spec : {M : Type 1} → statement M
 list-needs-spec =
     tie.close
     (tie.spec
-    check-tree-requires
-    enum-told
-    enum-told-2
-    refusal-of-requires
+    (λ c κs. search needs)
+    (λ c. search needs)
+    (λ c. search needs)
+    (λ c κs. search needs)
     returns
-    check-output-requires
-    enum-told-3
-    enum-told-4
-    refusal-of-requires-2
+    (λ c κs. search needs)
+    (λ c. search needs)
+    (λ c. search needs)
+    (λ c κs. search needs)
     returns-2
     count-members-requires
     write-needs-requires
-    same-length
+    (λ c. search needs)
     returns-3)

@@ -25,9 +25,6 @@ Inv-loop parents costs words members has-child₀ used₀ j₀ cost₀ k₀ has-
 abbrev μ-loop : tie.MeasureT-loop
 μ-loop parents costs words members has-child₀ used₀ j₀ cost₀ k₀ has-child used j cost k = k
 
-add-k : tie.Need-add-k Inv-loop μ-loop
-add-k c = search needs
-
 loop-holds : tie.Need-loop-holds Inv-loop μ-loop
 loop-holds c =
     let ok = tree-accepted _ (c .before .before .pre .0) in
@@ -37,31 +34,10 @@ parent-here : (c : tie.In-loop Inv-loop μ-loop)
     → getD (now (c .before .before .before .before .args .parents)) (c .before .loop .k - 1 - 1) 0 < 1024
 parent-here c = omega (arith, c .before .loop .inv .0 .rooted (c .before .loop .k - 1 - 1), c .before .loop .inv .0 .few)
 
-sub-k : tie.Need-sub-k Inv-loop μ-loop
-sub-k c = search needs
-
-array-read-one-if-member : tie.Need-array-read-one-if-member Inv-loop μ-loop
-array-read-one-if-member c = search needs
-
-one-if-member-requires : tie.Need-one-if-member-requires Inv-loop μ-loop
-one-if-member-requires c κs = search needs
-
 sub-j : tie.Need-sub-j Inv-loop μ-loop
 sub-j c =
     let at = c .before .before .loop in
     costing-room _ (c .before .before .before .before .before .args .words) (at .inv .0) _ (at .k - 1 - 1) (omega arith) (omega arith) (at .inv .3) _ (c .one-if-member .ensures)
-
-array-read-used-here : tie.Need-array-read-used-here Inv-loop μ-loop
-array-read-used-here c = search needs
-
-array-read-used-here-2 : tie.Need-array-read-used-here-2 Inv-loop μ-loop
-array-read-used-here-2 c = search needs
-
-has-requires : tie.Need-has-requires Inv-loop μ-loop
-has-requires c κs = search needs
-
-used-here-requires : tie.Need-used-here-requires Inv-loop μ-loop
-used-here-requires c κs = search needs
 
 -- whether the turn's arc is used
 here-used : (c : tie.After-used-here Inv-loop μ-loop)
@@ -75,18 +51,6 @@ here-used c =
     ∙ costing-used _ (c .before .before .before .before .before .before .before .args .words) (at .inv .0) _ (at .k - 1 - 1) (omega arith) (omega arith) (at .inv .3) _
     (costing-number _ _ (at .inv .0) _ (at .k - 1 - 1) (omega arith) (omega arith) (at .inv .3) _ (c .before .before .one-if-member .ensures))
 
-sub-cost-if : tie.Need-sub-cost-if Inv-loop μ-loop
-sub-cost-if c = search needs
-
-mul-cost-if : tie.Need-mul-cost-if Inv-loop μ-loop
-mul-cost-if c = search needs
-
-shared-slice-read-cost-if : tie.Need-shared-slice-read-cost-if Inv-loop μ-loop
-shared-slice-read-cost-if c = search needs
-
-cost-if-requires : tie.Need-cost-if-requires Inv-loop μ-loop
-cost-if-requires c κs = search needs
-
 add-cost : tie.Need-add-cost Inv-loop μ-loop
 add-cost c =
     let at = c .before .before .before .before .before .before .loop in
@@ -95,15 +59,6 @@ add-cost c =
       costing-fits _ (c .before .before .before .before .before .before .before .before .before .args .words) (at .inv .0) _ (at .k - 1 - 1) (omega arith) (omega arith) (at .inv .3)
           (here-used (c .before .before)) (c .cost-if .ensures),
     )
-
-sub-p : tie.Need-sub-p Inv-loop μ-loop
-sub-p c = search needs
-
-mul-p : tie.Need-mul-p Inv-loop μ-loop
-mul-p c = search needs
-
-shared-slice-read-p : tie.Need-shared-slice-read-p Inv-loop μ-loop
-shared-slice-read-p c = search needs
 
 cast-p : tie.Need-cast-p Inv-loop μ-loop
 cast-p c = omega (arith, parent-here (c .before .before .before .before .before .before))
@@ -114,14 +69,8 @@ array-write-has-child c = omega (arith, parent-here (c .before .before .before .
 array-read-either : tie.Need-array-read-either Inv-loop μ-loop
 array-read-either c = omega (arith, parent-here (c .before .before .before .before .before .before))
 
-either-requires : tie.Need-either-requires Inv-loop μ-loop
-either-requires c κs = search needs
-
 array-write-used : tie.Need-array-write-used Inv-loop μ-loop
 array-write-used c = omega (arith, parent-here (c .before .before .before .before .before .before .before))
-
-loop-less : tie.Need-loop-less Inv-loop μ-loop
-loop-less c = search needs
 
 loop-again : tie.Need-loop-again Inv-loop μ-loop
 loop-again c =
@@ -142,29 +91,29 @@ cost-of-spec =
     (tie.spec
     Inv-loop
     μ-loop
-    add-k
+    (λ c. search needs)
     loop-holds
-    sub-k
-    array-read-one-if-member
-    one-if-member-requires
+    (λ c. search needs)
+    (λ c. search needs)
+    (λ c κs. search needs)
     sub-j
-    array-read-used-here
-    array-read-used-here-2
-    has-requires
-    used-here-requires
-    sub-cost-if
-    mul-cost-if
-    shared-slice-read-cost-if
-    cost-if-requires
+    (λ c. search needs)
+    (λ c. search needs)
+    (λ c κs. search needs)
+    (λ c κs. search needs)
+    (λ c. search needs)
+    (λ c. search needs)
+    (λ c. search needs)
+    (λ c κs. search needs)
     add-cost
-    sub-p
-    mul-p
-    shared-slice-read-p
+    (λ c. search needs)
+    (λ c. search needs)
+    (λ c. search needs)
     cast-p
     array-write-has-child
     array-read-either
-    either-requires
+    (λ c κs. search needs)
     array-write-used
-    loop-less
+    (λ c. search needs)
     loop-again
     returns)

@@ -1,5 +1,4 @@
 use Prim.Native.Nat.{_+_, _-_, _≤_, _<_}
-use mathlib.Core.Path.{_≡_, refl}
 use mathlib.Core.Bool.{not, false}
 use lib.ListN.{length, getD}
 use native.Mathlib.Omega.{arith}
@@ -20,42 +19,18 @@ Inv-loop parents has-child₀ n₀ k₀ has-child n k =
 abbrev μ-loop : tie.MeasureT-loop
 μ-loop parents has-child₀ n₀ k₀ has-child n k = k
 
-add-k : tie.Need-add-k Inv-loop μ-loop
-add-k c = search needs
-
 loop-holds : tie.Need-loop-holds Inv-loop μ-loop
 loop-holds c =
     (c .before .pre, omega arith, omega arith, omega arith, counting-start (c .before .args .parents .now) (omega arith))
 
-sub-k : tie.Need-sub-k Inv-loop μ-loop
-sub-k c = search needs
-
-array-read-one-if-member : tie.Need-array-read-one-if-member Inv-loop μ-loop
-array-read-one-if-member c = search needs
-
-one-if-member-requires : tie.Need-one-if-member-requires Inv-loop μ-loop
-one-if-member-requires c κs = search needs
-
 add-n : tie.Need-add-n Inv-loop μ-loop
 add-n c = omega (arith, c .one-if-member .ensures, pick-le (not (getD (c .before .before .loop .has-child) (c .before .before .loop .k - 1) false)) 1)
-
-sub-has-child : tie.Need-sub-has-child Inv-loop μ-loop
-sub-has-child c = search needs
-
-mul-has-child : tie.Need-mul-has-child Inv-loop μ-loop
-mul-has-child c = search needs
-
-shared-slice-read-has-child : tie.Need-shared-slice-read-has-child Inv-loop μ-loop
-shared-slice-read-has-child c = search needs
 
 cast-has-child : tie.Need-cast-has-child Inv-loop μ-loop
 cast-has-child c = omega (arith, c .shared-slice-known2 .given (c .before .before .before .loop .k - 1 - 1))
 
 array-write-has-child : tie.Need-array-write-has-child Inv-loop μ-loop
 array-write-has-child c = omega (arith, c .before .before .before .loop .inv .0 .rising (c .before .before .before .loop .k - 1 - 1))
-
-loop-less : tie.Need-loop-less Inv-loop μ-loop
-loop-less c = search needs
 
 loop-again : tie.Need-loop-again Inv-loop μ-loop
 loop-again c =
@@ -76,17 +51,17 @@ count-members-spec =
     (tie.spec
     Inv-loop
     μ-loop
-    add-k
+    (λ c. search needs)
     loop-holds
-    sub-k
-    array-read-one-if-member
-    one-if-member-requires
+    (λ c. search needs)
+    (λ c. search needs)
+    (λ c κs. search needs)
     add-n
-    sub-has-child
-    mul-has-child
-    shared-slice-read-has-child
+    (λ c. search needs)
+    (λ c. search needs)
+    (λ c. search needs)
     cast-has-child
     array-write-has-child
-    loop-less
+    (λ c. search needs)
     loop-again
     returns)

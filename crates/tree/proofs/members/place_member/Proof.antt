@@ -9,20 +9,14 @@ returns c = (rw (c .if1 .taken) (omega arith), rw (c .if1 .taken))
 sub-out : tie.Need-sub-out
 sub-out c = c .before .pre .1 (c .if1 .left)
 
-mul-out : tie.Need-mul-out
-mul-out c = search needs
-
 slice-write-out : tie.Need-slice-write-out
 slice-write-out c = omega (arith, c .before .pre .1 (c .if1 .left))
 
 sub-result : tie.Need-sub-result
 sub-result c = c .before .pre .1 (c .if1 .left)
 
-same-length : tie.Need-same-length
-same-length c = search needs
-
 returns-2 : tie.Need-returns-2
 returns-2 c = (rw (c .if1 .left), rw (c .if1 .left))
 
 pub place-member-spec : {M : Type 1} → statement M
-place-member-spec = tie.close (tie.spec returns sub-out mul-out slice-write-out sub-result same-length returns-2)
+place-member-spec = tie.close (tie.spec returns sub-out (λ c. search needs) slice-write-out sub-result (λ c. search needs) returns-2)

@@ -18,28 +18,13 @@ Inv-loop parents out₀ has-child₀ j₀ k₀ out has-child j k =
 abbrev μ-loop : tie.MeasureT-loop
 μ-loop parents out₀ has-child₀ j₀ k₀ out has-child j k = k
 
-add-k : tie.Need-add-k Inv-loop μ-loop
-add-k c = search needs
-
 loop-holds : tie.Need-loop-holds Inv-loop μ-loop
 loop-holds c = (c .before .before .pre .0, omega arith, omega arith, refl, listing-start (c .before .before .args .parents .now) (omega arith) (c .before .before .pre .1))
-
-sub-k : tie.Need-sub-k Inv-loop μ-loop
-sub-k c = search needs
-
-cast-place-member : tie.Need-cast-place-member Inv-loop μ-loop
-cast-place-member c = search needs
-
-array-read-place-member : tie.Need-array-read-place-member Inv-loop μ-loop
-array-read-place-member c = search needs
 
 place-member-requires : tie.Need-place-member-requires Inv-loop μ-loop
 place-member-requires c κs =
     let before = c .before .before .loop .inv in
     (before .4 .fits, listing-room _ (before .0) _ (c .before .before .loop .k - 1 - 1) (omega arith) (omega arith) (before .4))
-
-sub-has-child : tie.Need-sub-has-child Inv-loop μ-loop
-sub-has-child c = search needs
 
 mul-has-child : tie.Need-mul-has-child Inv-loop μ-loop
 mul-has-child c = omega (arith, c .before .before .before .before .before .loop .inv .0 .few)
@@ -79,13 +64,13 @@ write-members-spec =
     (tie.spec
     Inv-loop
     μ-loop
-    add-k
+    (λ c. search needs)
     loop-holds
-    sub-k
-    cast-place-member
-    array-read-place-member
+    (λ c. search needs)
+    (λ c. search needs)
+    (λ c. search needs)
     place-member-requires
-    sub-has-child
+    (λ c. search needs)
     mul-has-child
     shared-slice-read-has-child
     cast-has-child

@@ -20,9 +20,6 @@ Inv-loop parents costs out₀ below₀ k₀ out below k =
 abbrev μ-loop : tie.MeasureT-loop
 μ-loop parents costs out₀ below₀ k₀ out below k = k
 
-add-k : tie.Need-add-k Inv-loop μ-loop
-add-k c = search needs
-
 loop-holds : tie.Need-loop-holds Inv-loop μ-loop
 loop-holds c =
     let ok = tree-accepted _ (c .pre .0) in
@@ -37,23 +34,8 @@ need-here c = needing-at _ (c .before .loop .inv .0) _ _ (omega arith) (omega ar
 parent-here : (c : tie.In-loop Inv-loop μ-loop) → getD (now (c .before .before .args .parents)) (c .before .loop .k - 1 - 1) 0 < 1024
 parent-here c = omega (arith, c .before .loop .inv .0 .rooted (c .before .loop .k - 1 - 1), c .before .loop .inv .0 .few)
 
-sub-k : tie.Need-sub-k Inv-loop μ-loop
-sub-k c = search needs
-
 mul-need : tie.Need-mul-need Inv-loop μ-loop
 mul-need c = omega (arith, c .before .loop .inv .0 .few)
-
-array-read-need : tie.Need-array-read-need Inv-loop μ-loop
-array-read-need c = search needs
-
-sub-need : tie.Need-sub-need Inv-loop μ-loop
-sub-need c = search needs
-
-mul-need-2 : tie.Need-mul-need-2 Inv-loop μ-loop
-mul-need-2 c = search needs
-
-shared-slice-read-need : tie.Need-shared-slice-read-need Inv-loop μ-loop
-shared-slice-read-need c = search needs
 
 cast-need : tie.Need-cast-need Inv-loop μ-loop
 cast-need c = omega (arith, c .shared-slice-known .given (c .before .before .loop .k - 1 - 1))
@@ -63,23 +45,8 @@ add-need c =
     omega
     (arith, needing-fits _ (c .before .before .loop .inv .0) _ (c .before .before .loop .k - 1 - 1) (omega arith) (omega arith) (c .before .before .loop .inv .3) _ (need-here (c .before)))
 
-sub-out : tie.Need-sub-out Inv-loop μ-loop
-sub-out c = search needs
-
 mul-out : tie.Need-mul-out Inv-loop μ-loop
 mul-out c = omega (arith, c .before .before .loop .inv .0 .few)
-
-slice-write-out : tie.Need-slice-write-out Inv-loop μ-loop
-slice-write-out c = search needs
-
-sub-p : tie.Need-sub-p Inv-loop μ-loop
-sub-p c = search needs
-
-mul-p : tie.Need-mul-p Inv-loop μ-loop
-mul-p c = search needs
-
-shared-slice-read-p : tie.Need-shared-slice-read-p Inv-loop μ-loop
-shared-slice-read-p c = search needs
 
 cast-p : tie.Need-cast-p Inv-loop μ-loop
 cast-p c = omega (arith, parent-here (c .before .before))
@@ -100,9 +67,6 @@ mul-below-2 c = omega (arith, parent-here (c .before .before))
 
 array-write-below : tie.Need-array-write-below Inv-loop μ-loop
 array-write-below c = omega (arith, parent-here (c .before .before))
-
-loop-less : tie.Need-loop-less Inv-loop μ-loop
-loop-less c = search needs
 
 loop-again : tie.Need-loop-again Inv-loop μ-loop
 loop-again c =
@@ -126,29 +90,29 @@ write-needs-spec =
     (tie.spec
     Inv-loop
     μ-loop
-    add-k
+    (λ c. search needs)
     loop-holds
-    sub-k
+    (λ c. search needs)
     mul-need
-    array-read-need
-    sub-need
-    mul-need-2
-    shared-slice-read-need
+    (λ c. search needs)
+    (λ c. search needs)
+    (λ c. search needs)
+    (λ c. search needs)
     cast-need
     add-need
-    sub-out
+    (λ c. search needs)
     mul-out
-    slice-write-out
-    sub-p
-    mul-p
-    shared-slice-read-p
+    (λ c. search needs)
+    (λ c. search needs)
+    (λ c. search needs)
+    (λ c. search needs)
     cast-p
     mul-below
     array-read-below
     add-below
     mul-below-2
     array-write-below
-    loop-less
+    (λ c. search needs)
     loop-again
     array-read-result
     same-length

@@ -1,0 +1,49 @@
+-- The bounds and the core on every accepted tree.
+use Prim.Native.Nat.{ℕ}
+use mathlib.Core.Logic.{_⊎_, inl, inr}
+use mathlib.Core.Path.{_≡_}
+use borrow.Author.Tests.{not-true}
+use lib.IntN.{ℤ, pos}
+use lib.Signed.{_≤ℤ_}
+use native.Mathlib.Omega.{arith}
+use Rattle.game.specs.Proposal.{share, minus}
+use Rattle.game.proofs.Integers.{less-le, less-parts}
+use Rattle.game.specs.Tree.{Tree, network, ofArc, hasChild}
+use Rattle.game.proofs.Excess.{MembersEnd}
+use Rattle.game.proofs.DeadEnds.{tree-ends}
+use Rattle.game.proofs.Bounds as Bounds
+use Rattle.game.proofs.Core.{core-to-bound, bound-to-need, need-to-core, core-nonneg}
+use Rattle.answers.specs.CoreLaws.{OtherUser, CoreStatement}
+use Rattle.answers.proofs.Accepted.{tree-accepted}
+
+-- a member is a vertex without a child
+pub members-end : (t : Tree) → MembersEnd (network t)
+unfolding hasChild
+members-end t v m = not-true (hasChild (t .parents) v) m
+
+not-negative : (x : ℤ) → minus x ≡ 0 → pos 0 ≤ℤ x
+not-negative x e = less-le (pos 0) x (less-parts (pos 0)) (less-parts x) (omega arith)
+
+pub core-laws : CoreStatement
+core-laws t e =
+    let ok = tree-accepted t e in
+    let n = network t in
+    record {
+      bound-is-only-theirs = λ k a. Bounds.bound-is-only-theirs n k;
+      need-at-most-bound = λ k a. Bounds.need-le-bound n (ok .rooted) k;
+      need-is-bound = λ k a why. Bounds.need-is-bound n (ok .rooted) (tree-ends t) k (record { first = a .first; last = a .last }) (other k why);
+      core-by-bound = λ shares. (core-to-bound n shares, λ c. need-to-core n (ok .rooted) (members-end t) shares (bound-to-need n (ok .rooted) shares c));
+      core-by-need = λ shares. (λ c. bound-to-need n (ok .rooted) shares (core-to-bound n shares c), need-to-core n (ok .rooted) (members-end t) shares);
+      core-not-negative = λ shares c j h. not-negative (share shares j) (core-nonneg n (ok .rooted) (members-end t) shares c j h);
+    }
+  where
+    other : (k : ℕ) → (ofArc (t .parents) k ≡ 0) ⊎ OtherUser t k → (ofArc (t .parents) k ≡ 0) ⊎ Bounds.OtherUser (network t) k
+    other k (inl z) = inl z
+    other k (inr o) =
+        inr
+        (record {
+          who = o .who;
+          within = record { low = o .is-vertex .first; high = o .is-vertex .last };
+          uses-parent = o .uses-parent;
+          not-below = o .not-below;
+        })

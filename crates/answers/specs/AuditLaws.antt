@@ -1,0 +1,40 @@
+-- What is proved of the audit's answers on every accepted tree and proposal. A group is any set of member numbers.
+use Prim.Native.Nat.{ℕ, _<_}
+use mathlib.Core.Path.{_≡_}
+use mathlib.Core.Bool.{Bool, true}
+use mathlib.Core.Logic.{_↔_}
+use mathlib.Core.List.{List}
+use lib.IntN.{ℤ, pos}
+use lib.Signed.{_≤ℤ_}
+use Rattle.game.specs.Network.{memberCount, wholeCost}
+use Rattle.game.specs.Tree.{Tree, network}
+use Rattle.game.specs.Group.{bit, size}
+use Rattle.game.specs.Proposal.{pays, overpayment, difference}
+use Rattle.answers.specs.Answer.{value, accepted}
+use Rattle.answers.specs.Laws.{costOf, PartOf}
+use Rattle.answers.specs.Audit.{wrongTotal, objection, pass, auditCheck, auditAnswer, auditWords}
+
+-- the group that the words name
+abbrev pub theGroup : Tree → List ℤ → ℕ → Bool
+theGroup t shares = bit (auditWords t shares)
+
+pub record ObjectionLaws (t : Tree) (shares : List ℤ) (amount members : ℕ) : Type 0 where
+  -- the named group overpays exactly the amount, which is above 0, and has as many members as the answer says
+  pub overpays : overpayment (network t) shares (theGroup t shares) ≡ pos amount
+  pub above-zero : 0 < amount
+  pub counted : size (memberCount (network t)) (theGroup t shares) ≡ members
+  -- no group overpays more
+  pub none-more : (g : ℕ → Bool) → overpayment (network t) shares g ≤ℤ pos amount
+  -- every group that overpays as much has every member of the named one
+  pub part-of-all : (g : ℕ → Bool) → overpayment (network t) shares g ≡ pos amount → PartOf (theGroup t shares) g
+
+pub record AuditLaws (t : Tree) (shares : List ℤ) : Type 0 where
+  -- pass, exactly when the proposal adds up to the whole cost and no group pays more than its own network costs
+  pub passes : (auditAnswer t shares ≡ value pass)
+      ↔ ((pays (network t) shares (λ j. true) ≡ pos (wholeCost (network t))) × ((g : ℕ → Bool) → pays (network t) shares g ≤ℤ pos (costOf t g)))
+  -- a wrong total, exactly when the difference is not 0, and with that difference
+  pub wrong-total : (d : ℤ) → (auditAnswer t shares ≡ value (wrongTotal d)) ↔ ((difference (network t) shares ≡ d) × (d ≡ pos 0 → ⊥))
+  pub objects : (amount members : ℕ) → auditAnswer t shares ≡ value (objection amount members) → ObjectionLaws t shares amount members
+
+abbrev pub AuditStatement : Type 0
+AuditStatement = (t : Tree) (shares : List ℤ) → auditCheck t shares ≡ accepted → AuditLaws t shares

@@ -1,0 +1,84 @@
+// The audit of a proposal: its total, then the group that overpays most.
+use checks::Checked;
+use checks::Refusal;
+ghost use mathlib.Core.Path.{_≡_};
+ghost use lib.ListN.{replicate};
+ghost use Rattle.game.specs.Tree.{treeOf, network};
+ghost use Rattle.game.specs.Group.{wordsOf};
+ghost use Rattle.game.specs.Search.{isIn, named};
+ghost use Rattle.answers.specs.Answer.{accepted, value, refusal};
+ghost use Rattle.answers.specs.Audit.{auditCheck, searchVerdict, wordsBeside, auditAnswer, auditWords};
+ghost use Rattle.engine.specs.Outcomes.{auditOf};
+
+pub enum AuditFound {
+    // The proposal less the whole cost, where that is not 0.
+    WrongTotal(i64),
+    // The greatest overpayment of a group, and the size of the group.
+    Objection { amount: u64, size: usize },
+    Pass,
+    Refused(Refusal),
+}
+
+// The answer, and beside it the group of an objection; the words are 0 in every other answer.
+pub struct Audited {
+    pub answer: AuditFound,
+    pub group: [u64; 16],
+}
+
+fn refused(r: Refusal) -> Audited
+    ensures { λ a. ⌜ auditOf (a .answer) ≡ refusal (r .number) (r .place) ⌝ }
+    ensures { λ a. ⌜ a .group ≡ replicate 16 0 ⌝ }
+{
+    Audited {
+        answer: AuditFound::Refused(r),
+        group: [0; 16],
+    }
+}
+
+// The verdict of the group search.
+fn search_verdict(parents: &[u16], costs: &[u32], proposal: &[i64]) -> Audited
+    requires { ⌜ auditCheck (treeOf (now parents) (now costs)) (now proposal) ≡ accepted ⌝ }
+    ensures { λ r. ⌜ auditOf (r .answer) ≡ value (searchVerdict (network (treeOf (now (parents .entry)) (now (costs .entry)))) (now (proposal .entry))) ⌝ }
+    ensures { λ r. ⌜ r .group ≡ wordsBeside (auditOf (r .answer)) (wordsOf (isIn (named (network (treeOf (now (parents .entry)) (now (costs .entry)))) (now (proposal .entry))))) ⌝ }
+{
+    let found = search::search(parents, costs, proposal);
+    let amount = found.amount;
+    let group = found.group;
+    if amount == 0 {
+        return Audited {
+            answer: AuditFound::Pass,
+            group: [0; 16],
+        };
+    }
+    let size = bits::size_of(group);
+    Audited {
+        answer: AuditFound::Objection { amount, size },
+        group,
+    }
+}
+
+// 1 to 4, then 6 and 7.
+pub fn audit(parents: &[u16], costs: &[u32], proposal: &[i64]) -> Audited
+    ensures { λ r. ⌜ auditOf (r .answer) ≡ auditAnswer (treeOf (now (parents .entry)) (now (costs .entry))) (now (proposal .entry)) ⌝ }
+    ensures { λ r. ⌜ r .group ≡ auditWords (treeOf (now (parents .entry)) (now (costs .entry))) (now (proposal .entry)) ⌝ }
+{
+    let tree = checks::check_tree(parents, costs);
+    let Checked::Accepted = tree else {
+        return refused(checks::refusal_of(tree));
+    };
+    let members = tree::count_members(parents);
+    let shares = proposal::check_proposal(members, proposal);
+    let Checked::Accepted = shares else {
+        return refused(checks::refusal_of(shares));
+    };
+    let parts = proposal::parts_of(proposal);
+    let proposed = parts.plus;
+    let owed = parts.minus + tree::whole_cost(costs);
+    if proposed == owed {
+        return search_verdict(parents, costs, proposal);
+    }
+    Audited {
+        answer: AuditFound::WrongTotal(proposal::less(proposed, owed)),
+        group: [0; 16],
+    }
+}

@@ -1,0 +1,45 @@
+-- An accepted proposal: each share is within its range, and so are the sums of the shares' parts.
+use Prim.Native.Nat.{ℕ, pred, _+_, _≤_}
+use mathlib.Core.Path.{_≡_, refl}
+use mathlib.Core.List.{List}
+use native.Mathlib.Nat.{le-trans}
+use native.Mathlib.Numerals.{add-one}
+use native.Mathlib.Omega.{arith}
+use borrow.Author.Tests.{ltb-false}
+use lib.IntN.{ℤ, pos, negsuc, natAbs}
+use Rattle.game.specs.Sum.{sum}
+use Rattle.game.specs.Proposal.{share, plus, minus}
+use Rattle.game.proofs.Sums.{sum-bound}
+use Rattle.answers.specs.Answer.{accepted}
+use Rattle.answers.specs.Checks.{proposalCheck, outsideShare, mostShare}
+use Rattle.checks.proofs.Range.{list-accepted}
+
+pub share-most : (members : ℕ) (l : List ℤ) → proposalCheck members l ≡ accepted → (j : ℕ) → natAbs (share l j) ≤ mostShare
+share-most members l e j =
+    ltb-false mostShare (natAbs (share l j)) (list-accepted outsideShare (pos 0) members l refl e .inside j)
+
+-- a part of a number is at most the number's size
+pub plus-size : (z : ℤ) → plus z ≤ natAbs z
+plus-size (pos a) = omega arith
+plus-size (negsuc a) = omega arith
+
+pub minus-size : (z : ℤ) → minus z ≤ natAbs z
+minus-size (pos a) = omega arith
+minus-size (negsuc a) = omega arith
+
+-- the sum of one part of the first n shares
+abbrev pub partSum : (ℤ → ℕ) → List ℤ → ℕ → ℕ
+partSum part l n = sum n (λ i. part (share l (pred i)))
+
+module _ (part : ℤ → ℕ) (l : List ℤ) where
+  pub sum-next : (n : ℕ) {s x : ℕ} → s ≡ partSum part l n → x ≡ part (share l n) → s + x ≡ partSum part l (n + 1)
+  sum-next n e d = rw add-one (omega arith)
+
+  pub sum-most : (members : ℕ) → ((z : ℤ) → part z ≤ natAbs z) → proposalCheck members l ≡ accepted → (n : ℕ) → n ≤ 1023
+      → partSum part l n ≤ 2046000000000000
+  sum-most members size checked n h =
+      omega (
+        arith,
+        sum-bound n mostShare {f = λ i. part (share l (pred i))}
+            (λ i within. le-trans (size (share l (pred i))) (share-most members l checked (pred i))),
+      )

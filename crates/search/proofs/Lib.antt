@@ -1,0 +1,4 @@
+mod ExcessPass
+mod MarkPass
+mod Bound
+mod NamedGroup

@@ -1,0 +1,157 @@
+-- The active members in a pass from the source outward, and their words.
+use Prim.Native.Nat.{ℕ, zero, suc, pred, _+_, _≤_, _<_}
+use mathlib.Core.Path.{_≡_, refl, sym, ap, ap₂, _∙_}
+use mathlib.Core.Bool.{Bool, true, false, not, _&&_, _||_}
+use mathlib.Core.Logic.{⊎-elim}
+use mathlib.Core.List.{List}
+use native.Mathlib.Decide.{decLe}
+use native.Mathlib.Omega.{arith}
+use borrow.Author.Tests.{eqb-true, eq-eqb, ne-eqb, lt-ltb}
+use lib.ListN.{length, getD, set, replicate, length-set}
+use lib.Seq.{getD-set-same, getD-set-other}
+use lib.Dec.{eqb, ltb}
+use Rattle.game.specs.Sum.{pick, count}
+use Rattle.game.specs.Tree.{ofArc, hasChild}
+use Rattle.game.specs.Group.{bit, wordsOf}
+use Rattle.game.proofs.Bools.{both, and-both, and-true, and-false, pick-yes, pick-le}
+use Rattle.game.proofs.Sums.{In, sum-longer, sum-bound}
+use Rattle.game.proofs.Encoding.{bit-none, none-encoded}
+use Rattle.game.proofs.Numbering.{before-member}
+use Rattle.tree.specs.Passes.{Sound}
+use Rattle.tree.proofs.Carry.{or-none}
+use Rattle.tree.proofs.MemberPass.{isMember}
+use Rattle.search.specs.Passes.{Ends, Marked}
+
+module _ (ps excesses : List ℕ) where
+  -- the rule: an excess at the arc itself, and the parent is the source or active
+  abbrev rule : (ℕ → Bool) → ℕ → Bool
+  rule act v = ltb 0 (getD excesses v 0) && (eqb (ofArc ps v) 0 || act (ofArc ps v))
+
+  -- the arcs 1 to i have been met
+  pub record Marking (active : List Bool) (words : List ℕ) (j i : ℕ) : Type 0 where
+    pub places : length active ≡ 1024
+    pub source : getD active 0 false ≡ true
+    pub ruled : (v : ℕ) → In i v → getD active v false ≡ rule (λ u. getD active u false) v
+    pub numbered : j ≡ count i (isMember ps)
+    pub marks : (v : ℕ) → In i v → hasChild ps v ≡ false → bit words (count (pred v) (isMember ps)) ≡ getD active v false
+    pub none-beyond : (u : ℕ) → j ≤ u → bit words u ≡ false
+    pub encoded : words ≡ wordsOf (bit words)
+
+  pub marking-start : Marking (set (replicate 1024 false) 0 true) (replicate 16 0) 0 0
+  marking-start =
+      record {
+        places = refl;
+        source = refl;
+        ruled = λ v k. absurd (omega (arith, k .low, k .high));
+        numbered = refl;
+        marks = λ v k. absurd (omega (arith, k .low, k .high));
+        none-beyond = λ u h. bit-none u;
+        encoded = none-encoded;
+      }
+
+  pub marking-end : {active : List Bool} {words : List ℕ} {j i : ℕ} → i ≡ length ps → Marking active words j i → Marked ps excesses words
+  marking-end {active} e s =
+      record {
+        act = λ v. getD active v false;
+        active = λ v k. s .ruled v (omega (arith, k .low, k .high));
+        marks = λ v k. s .marks v (omega (arith, k .low, k .high));
+        none-beyond = λ j h. s .none-beyond j (omega (arith, s .numbered, ap (λ (u : ℕ). count u (isMember ps)) e));
+        encoded = s .encoded;
+      }
+
+  module _ (sound : Sound ps) (inner : List Bool) (ends : Ends ps inner) (i : ℕ) (within : i < length ps) {active : List Bool} {words : List ℕ} {j : ℕ} (s : Marking active words j i)
+      {on chosen : Bool} (is-on : on ≡ (ltb 0 (getD excesses (suc i) 0) && getD active (getD ps i 0) false)) (is-chosen : chosen ≡ (on && not (getD inner (suc i) false))) where
+    after : List Bool
+    after = set active (suc i) on
+
+    known : getD inner (suc i) false ≡ hasChild ps (suc i)
+    known = ends .known (suc i) (omega arith)
+
+    earlier : (v : ℕ) → v ≤ i → getD after v false ≡ getD active v false
+    unfolding after
+    earlier v h = getD-set-other active (suc i) v on false (λ e. omega arith)
+
+    newest : getD after (suc i) false ≡ on
+    unfolding after
+    newest = getD-set-same active (suc i) on false (omega (arith, s .places, sound .few))
+
+    -- the source counts as active
+    parent-rule : getD active (getD ps i 0) false ≡ (eqb (getD ps i 0) 0 || getD active (getD ps i 0) false)
+    parent-rule =
+        ⊎-elim
+        (λ (e : eqb (getD ps i 0) 0 ≡ true). rw e (ap (λ (u : ℕ). getD active u false) (eqb-true (getD ps i 0) 0 e) ∙ s .source))
+        (λ (e : eqb (getD ps i 0) 0 ≡ false). rw e)
+        (both (eqb (getD ps i 0) 0))
+
+    parent-before : (v : ℕ) → In (suc i) v → ofArc ps v ≤ i
+    parent-before zero k = absurd (omega arith)
+    parent-before (suc v) k = omega (arith, sound .rising v)
+
+    ruled-on : (v : ℕ) → In (suc i) v → getD after v false ≡ rule (λ u. getD after u false) v
+    ruled-on v k =
+        elim (decLe v i) [
+          | yes h ↦ earlier v h ∙ s .ruled v (omega arith) ∙ ap (λ (b : Bool). ltb 0 (getD excesses v 0) && (eqb (ofArc ps v) 0 || b)) (sym (earlier (ofArc ps v) (parent-before v k)))
+          | no h ↦ last (omega arith)
+        ]
+      where
+        last : v ≡ suc i → getD after v false ≡ rule (λ u. getD after u false) v
+        last e =
+            rw e
+            (newest ∙ is-on
+            ∙ ap (λ (b : Bool). ltb 0 (getD excesses (suc i) 0) && b) (parent-rule ∙ ap (λ (b : Bool). eqb (getD ps i 0) 0 || b) (sym (earlier (getD ps i 0) (sound .rising i)))))
+
+    module _ (words′ : List ℕ) {w : ℕ} (bits : (u : ℕ) → bit words′ u ≡ (bit words u || (chosen && (eqb u j && ltb j 1024)))) (is-w : w ≡ pick (not (getD inner (suc i) false)) 1) where
+      count-le : count i (isMember ps) ≤ i
+      count-le = omega (arith, sum-bound i 1 {f = λ v. pick (isMember ps v) 1} (λ v k. pick-le (isMember ps v) 1))
+
+      -- a number other than the next keeps its bit
+      kept : (u : ℕ) → (u ≡ j → ⊥) → bit words′ u ≡ bit words u
+      kept u h = bits u ∙ ap (λ (b : Bool). bit words u || (chosen && (b && ltb j 1024))) (ne-eqb u j h) ∙ ap (λ (b : Bool). bit words u || b) (and-false chosen) ∙ or-none (bit words u)
+
+      marks-on : (v : ℕ) → In (suc i) v → hasChild ps v ≡ false → bit words′ (count (pred v) (isMember ps)) ≡ getD after v false
+      marks-on v k m =
+          elim (decLe v i) [
+            | yes h ↦
+                kept (count (pred v) (isMember ps))
+                (λ e. omega (arith, s .numbered, before-member (isMember ps) v (k .low) (ap not m), sum-longer v i (λ u. pick (isMember ps u) 1) h))
+                ∙ s .marks v (omega arith) m
+                ∙ sym (earlier v h)
+            | no h ↦ last (omega arith)
+          ]
+        where
+          last : v ≡ suc i → bit words′ (count (pred v) (isMember ps)) ≡ getD after v false
+          last e =
+              ap (λ (u : ℕ). bit words′ (count (pred u) (isMember ps))) e
+              ∙ ap (bit words′) (sym (s .numbered))
+              ∙ bits j
+              ∙ ap₂ (λ (a b : Bool). a || (chosen && b)) (s .none-beyond j (omega arith)) (and-both (eq-eqb j j refl) (lt-ltb j 1024 (omega (arith, s .numbered, count-le, sound .few))))
+              ∙ and-true chosen
+              ∙ is-chosen
+              ∙ ap (λ (b : Bool). on && not b) (known ∙ ap (hasChild ps) (sym e) ∙ m)
+              ∙ and-true on
+              ∙ sym newest
+              ∙ ap (λ (u : ℕ). getD after u false) (sym e)
+
+      none-on : (u : ℕ) → j + w ≤ u → bit words′ u ≡ false
+      none-on u h =
+          ⊎-elim
+          (λ (e : getD inner (suc i) false ≡ true).
+          bits u
+          ∙ ap (λ (b : Bool). bit words u || (b && (eqb u j && ltb j 1024))) (is-chosen ∙ ap (λ (b : Bool). on && not b) e ∙ and-false on)
+          ∙ or-none (bit words u)
+          ∙ s .none-beyond u (omega arith))
+          (λ (e : getD inner (suc i) false ≡ false). kept u (λ d. omega (arith, is-w, pick-yes 1 (ap not e))) ∙ s .none-beyond u (omega arith))
+          (both (getD inner (suc i) false))
+
+      pub marking-on : (words ≡ wordsOf (bit words) → words′ ≡ wordsOf (bit words′)) → Marking (set active (suc i) on) words′ (j + w) (suc i)
+      unfolding after
+      marking-on stays =
+          record {
+            places = length-set active (suc i) on ∙ s .places;
+            source = earlier 0 (omega arith) ∙ s .source;
+            ruled = ruled-on;
+            numbered = ap₂ (λ (a b : ℕ). a + b) (s .numbered) (is-w ∙ ap (λ (b : Bool). pick (not b) 1) known);
+            marks = marks-on;
+            none-beyond = none-on;
+            encoded = stays (s .encoded);
+          }

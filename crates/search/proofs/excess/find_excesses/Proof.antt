@@ -1,0 +1,141 @@
+use Prim.Native.Nat.{_+_, _-_, _≤_, _<_}
+use mathlib.Core.Path.{_≡_}
+use lib.ListN.{length, getD}
+use denote.Ref.{now}
+use native.Mathlib.Omega.{arith}
+use borrow.Author.Needs.{needs}
+use Rattle.game.specs.Tree.{treeOf}
+use Rattle.search.proofs.Bound.{Proposed, tree-ok, proposal-length}
+use Rattle.search.proofs.ExcessPass.{Passing, excess, passing-start, passing-room, passing-place, passing-fits, passing-excess, passing-carry, passing-on, passing-end}
+use Rattle.search.proofs.excess.find_excesses.Statement.{statement}
+use Rattle.search.proofs.excess.find_excesses.Tie as tie
+
+abbrev Inv-loop : tie.InvT-loop
+Inv-loop parents costs proposal has-child₀ below₀ of₀ j₀ k₀ has-child below of j k =
+    Proposed (treeOf parents costs) proposal × (0 < k) × (k ≤ length parents + 1) × (length parents ≤ 1023) × Passing (treeOf parents costs) proposal has-child below of j (k - 1)
+
+abbrev μ-loop : tie.MeasureT-loop
+μ-loop parents costs proposal has-child₀ below₀ of₀ j₀ k₀ has-child below of j k = k
+
+loop-holds : tie.Need-loop-holds Inv-loop μ-loop
+loop-holds c =
+    let ok : Proposed (treeOf (now (c .before .before .args .parents)) (now (c .before .before .args .costs))) (now (c .before .before .args .proposal)) = record { accepts = c .before .before .pre } in
+    (ok, omega arith, omega arith, tree-ok _ _ ok .few, passing-start _ _ ok (omega arith) (proposal-length _ _ ok))
+
+parent-here : (c : tie.In-loop Inv-loop μ-loop) → getD (now (c .before .before .before .before .args .parents)) (c .before .loop .k - 1 - 1) 0 < 1024
+parent-here c = omega (arith, tree-ok _ _ (c .before .loop .inv .0) .rooted (c .before .loop .k - 1 - 1), c .before .loop .inv .3)
+
+sub-j : tie.Need-sub-j Inv-loop μ-loop
+sub-j c =
+    let at = c .before .before .loop in
+    passing-room _ _ (at .inv .0) _ (at .k - 1 - 1) (omega arith) (omega arith) (at .inv .4) _ (c .one-if-member .ensures)
+
+share-here-requires : tie.Need-share-here-requires Inv-loop μ-loop
+share-here-requires c κs = λ none.
+    let at = c .before .before .loop in
+    omega (
+      arith,
+      passing-place _ _ (at .inv .0) _ (at .k - 1 - 1) (omega arith) (omega arith) (at .inv .4) _ (c .one-if-member .ensures) none,
+      proposal-length _ _ (at .inv .0),
+    )
+
+add-amount : tie.Need-add-amount Inv-loop μ-loop
+add-amount c =
+    let at = c .before .before .before .loop in
+    omega (
+      arith,
+      passing-fits _ _ (at .inv .0) _ (at .k - 1 - 1) (omega arith) (omega arith) (at .inv .4) _ _ (c .before .one-if-member .ensures) (c .share-here .ensures),
+    )
+
+shared-slice-read-above-cost : tie.Need-shared-slice-read-above-cost Inv-loop μ-loop
+shared-slice-read-above-cost c =
+    omega (arith, c .before .before .before .before .loop .inv .2, c .before .before .before .loop-test .taken, tree-ok _ _ (c .before .before .before .before .loop .inv .0) .same)
+
+cast-above-cost : tie.Need-cast-above-cost Inv-loop μ-loop
+cast-above-cost c = omega (arith, c .shared-slice-known3 .given (c .before .before .before .before .loop .k - 1 - 1))
+
+-- what the turn's arc exceeds by
+excess-here : (c : tie.After-above-cost Inv-loop μ-loop)
+    → c .above-cost .result ≡ excess (treeOf (now (c .before .before .before .before .before .before .before .before .args .parents)) (now (c .before .before .before .before .before .before .before .before .args .costs))) (now (c .before .before .before .before .before .before .before .before .args .proposal)) (c .before .before .before .before .before .loop .k - 1)
+excess-here c =
+    let at = c .before .before .before .before .before .loop in
+    passing-excess _ _ (at .inv .0) _ (at .k - 1 - 1) (omega arith) (omega arith) (at .inv .4) _ _ (c .before .before .before .one-if-member .ensures) (c .before .before .share-here .ensures) _
+    (c .above-cost .ensures)
+
+cast-p : tie.Need-cast-p Inv-loop μ-loop
+cast-p c = omega (arith, parent-here (c .before .before .before .before .before))
+
+array-write-has-child : tie.Need-array-write-has-child Inv-loop μ-loop
+array-write-has-child c = omega (arith, parent-here (c .before .before .before .before .before))
+
+mul-below : tie.Need-mul-below Inv-loop μ-loop
+mul-below c = omega (arith, parent-here (c .before .before .before .before .before))
+
+array-read-below : tie.Need-array-read-below Inv-loop μ-loop
+array-read-below c = omega (arith, parent-here (c .before .before .before .before .before))
+
+add-below : tie.Need-add-below Inv-loop μ-loop
+add-below c =
+    let at = c .before .before .before .before .before .before .loop in
+    omega (arith, passing-carry _ _ (at .inv .0) _ (at .k - 1 - 1) (omega arith) (omega arith) (at .inv .4) _ (excess-here (c .before)))
+
+mul-below-2 : tie.Need-mul-below-2 Inv-loop μ-loop
+mul-below-2 c = omega (arith, parent-here (c .before .before .before .before .before))
+
+array-write-below : tie.Need-array-write-below Inv-loop μ-loop
+array-write-below c = omega (arith, parent-here (c .before .before .before .before .before))
+
+loop-again : tie.Need-loop-again Inv-loop μ-loop
+loop-again c =
+    let at = c .before .before .before .before .before .before .loop in (
+      at .inv .0,
+      omega arith,
+      omega arith,
+      at .inv .3,
+      passing-on _ _ (at .inv .0) _ (at .k - 1 - 1) (omega arith) (omega arith) (at .inv .4) _ _ (c .before .before .before .before .one-if-member .ensures) (excess-here (c .before)),
+    )
+
+array-read-t38 : tie.Need-array-read-t38 Inv-loop μ-loop
+array-read-t38 c = omega arith
+
+returns : tie.Need-returns Inv-loop μ-loop
+returns c = passing-end _ _ (c .before .loop .inv .0) (omega arith) (c .before .loop .inv .4)
+
+pub find-excesses-spec : {M : Type 1} → statement M
+find-excesses-spec =
+    tie.close
+    (tie.spec
+    Inv-loop
+    μ-loop
+    (λ c. search needs)
+    loop-holds
+    (λ c. search needs)
+    (λ c. search needs)
+    (λ c κs. search needs)
+    sub-j
+    (λ c. search needs)
+    share-here-requires
+    (λ c. search needs)
+    (λ c. search needs)
+    add-amount
+    (λ c. search needs)
+    (λ c. search needs)
+    shared-slice-read-above-cost
+    cast-above-cost
+    (λ c κs. search needs)
+    (λ c. search needs)
+    (λ c. search needs)
+    (λ c. search needs)
+    (λ c. search needs)
+    (λ c. search needs)
+    cast-p
+    array-write-has-child
+    mul-below
+    array-read-below
+    add-below
+    mul-below-2
+    array-write-below
+    (λ c. search needs)
+    loop-again
+    array-read-t38
+    returns)

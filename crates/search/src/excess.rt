@@ -1,0 +1,63 @@
+// The excess of each arc: what the positive shares of its users exceed its cost by, after the arcs below it.
+ghost use mathlib.Core.Path.{_≡_};
+ghost use Prim.Native.Nat.{_-_, _<_};
+ghost use mathlib.Core.Bool.{not, false};
+ghost use lib.ListN.{length};
+ghost use Rattle.game.specs.Sum.{pick};
+ghost use Rattle.game.specs.Proposal.{plus, share};
+ghost use Rattle.game.specs.Tree.{treeOf};
+ghost use Rattle.answers.specs.Answer.{accepted};
+ghost use Rattle.answers.specs.Audit.{auditCheck};
+ghost use Rattle.search.specs.Passes.{Exceeding};
+
+pub struct Excesses {
+    // All excess, that of the arcs from the source.
+    pub total: u64,
+    // By vertex: the excess of the arc that enters it, and whether it is an inner vertex, with a child.
+    pub of: [u64; 1024],
+    pub inner: [bool; 1024],
+}
+
+// A member's positive share; 0 at a vertex that has a child.
+fn share_here(has_child: bool, proposal: &[i64], j: usize) -> u64
+    requires { ⌜ («has_child» ≡ false → j < length (now proposal)) ⌝ }
+    ensures { λ r. ⌜ r ≡ pick (not «has_child») (plus (share (now (proposal .entry)) j)) ⌝ }
+{
+    if has_child {
+        return 0;
+    }
+    proposal::plus(proposal[j])
+}
+
+// What is there less the cost, 0 where the cost is greater.
+fn above_cost(amount: u64, cost: u64) -> u64
+    ensures { λ r. ⌜ r ≡ amount - cost ⌝ }
+{
+    if amount < cost { 0 } else { amount - cost }
+}
+
+pub fn find_excesses(parents: &[u16], costs: &[u32], proposal: &[i64]) -> Excesses
+    requires { ⌜ auditCheck (treeOf (now parents) (now costs)) (now proposal) ≡ accepted ⌝ }
+    ensures { λ r. ⌜ Exceeding (treeOf (now (parents .entry)) (now (costs .entry))) (now (proposal .entry)) (r .total) (r .of) (r .inner) ⌝ }
+{
+    let mut has_child = [false; 1024];
+    let mut below = [0u64; 1024];
+    let mut of = [0u64; 1024];
+    let mut j = proposal.len();
+    let mut k = parents.len() + 1;
+    while k > 1 {
+        k -= 1;
+        j -= tree::one_if_member(has_child[k]);
+        let amount = share_here(has_child[k], proposal, j) + below[k];
+        let x = above_cost(amount, costs[k - 1] as u64);
+        of[k] = x;
+        let p = parents[k - 1] as usize;
+        has_child[p] = true;
+        below[p] = below[p] + x;
+    }
+    Excesses {
+        total: below[0],
+        of,
+        inner: has_child,
+    }
+}

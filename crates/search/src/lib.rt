@@ -1,0 +1,33 @@
+// The group search: of all groups the one that overpays most, and of those the one with fewest members, in two passes over the tree.
+mod excess;
+mod mark;
+
+ghost use mathlib.Core.Path.{_≡_};
+ghost use lib.IntN.{pos};
+ghost use Rattle.game.specs.Tree.{treeOf, network};
+ghost use Rattle.game.specs.Group.{wordsOf};
+ghost use Rattle.game.specs.Proposal.{overpayment};
+ghost use Rattle.game.specs.Search.{isIn, named};
+ghost use Rattle.answers.specs.Answer.{accepted};
+ghost use Rattle.answers.specs.Audit.{auditCheck};
+
+// What the named group overpays, and its words.
+pub struct Found {
+    pub amount: u64,
+    pub group: [u64; 16],
+}
+
+pub fn search(parents: &[u16], costs: &[u32], proposal: &[i64]) -> Found
+    requires { ⌜ auditCheck (treeOf (now parents) (now costs)) (now proposal) ≡ accepted ⌝ }
+    ensures { λ r. ⌜ overpayment (network (treeOf (now (parents .entry)) (now (costs .entry)))) (now (proposal .entry)) (isIn (named (network (treeOf (now (parents .entry)) (now (costs .entry)))) (now (proposal .entry)))) ≡ pos (r .amount) ⌝ }
+    ensures { λ r. ⌜ r .group ≡ wordsOf (isIn (named (network (treeOf (now (parents .entry)) (now (costs .entry)))) (now (proposal .entry)))) ⌝ }
+{
+    let found = excess::find_excesses(parents, costs, proposal);
+    let of = found.of;
+    let inner = found.inner;
+    let group = mark::mark(parents, of, inner);
+    Found {
+        amount: found.total,
+        group,
+    }
+}

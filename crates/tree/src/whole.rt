@@ -1,0 +1,20 @@
+// The whole cost.
+ghost use mathlib.Core.Path.{_≡_};
+ghost use Prim.Native.Nat.{_≤_};
+ghost use lib.ListN.{length};
+ghost use Rattle.game.specs.Sum.{sum};
+ghost use Rattle.game.specs.Tree.{ofArc};
+
+// The sum of all costs.
+pub fn whole_cost(costs: &[u32]) -> u64
+    requires { ⌜ length (now costs) ≤ 1023 ⌝ }
+    ensures { λ r. ⌜ r ≡ sum (length (now (costs .entry))) (ofArc (now (costs .entry))) ⌝ }
+{
+    let mut total: u64 = 0;
+    let mut i = 0;
+    while i < costs.len() {
+        total += costs[i] as u64;
+        i += 1;
+    }
+    total
+}
