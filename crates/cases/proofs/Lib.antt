@@ -1,2 +1,4 @@
+mod Copied
+mod Fields
 mod Lists
 mod Turned

@@ -1,13 +1,18 @@
 // Copies of a list at another width.
 use crate::signed;
 ghost use Prim.Native.Nat.{_≤_};
+ghost use mathlib.Core.List.{map};
+ghost use mathlib.Core.Path.{_≡_};
 ghost use lib.ListN.{length};
+ghost use lib.Seq.{paste};
 ghost use Rattle.cases.specs.Lists.{Front};
+ghost use Rattle.cases.specs.Signed.{signedOf};
 
 // The first n entries, into the front of to.
 pub fn narrow16(from: &[u64], n: usize, to: &mut [u16])
     requires { ⌜ Front n 65535 (now from) ⌝ }
     requires { ⌜ n ≤ length (now to) ⌝ }
+    ensures { λ _. ⌜ now (to .exit) ≡ paste (now (to .entry)) 0 (now (from .entry)) n ⌝ }
 {
     let mut i = 0;
     while i < n {
@@ -20,6 +25,7 @@ pub fn narrow16(from: &[u64], n: usize, to: &mut [u16])
 pub fn narrow32(from: &[u64], n: usize, to: &mut [u32])
     requires { ⌜ Front n 4294967295 (now from) ⌝ }
     requires { ⌜ n ≤ length (now to) ⌝ }
+    ensures { λ _. ⌜ now (to .exit) ≡ paste (now (to .entry)) 0 (now (from .entry)) n ⌝ }
 {
     let mut i = 0;
     while i < n {
@@ -32,6 +38,7 @@ pub fn narrow32(from: &[u64], n: usize, to: &mut [u32])
 pub fn to_signed(from: &[u64], n: usize, to: &mut [i64])
     requires { ⌜ n ≤ length (now from) ⌝ }
     requires { ⌜ n ≤ length (now to) ⌝ }
+    ensures { λ _. ⌜ now (to .exit) ≡ paste (now (to .entry)) 0 (map signedOf (now (from .entry))) n ⌝ }
 {
     let mut i = 0;
     while i < n {
@@ -40,13 +47,16 @@ pub fn to_signed(from: &[u64], n: usize, to: &mut [i64])
     }
 }
 
-fn wide(n: u16) -> u64 {
+fn wide(n: u16) -> u64
+    ensures { λ r. ⌜ r ≡ n ⌝ }
+{
     n as u64
 }
 
 // All entries, into the front of to.
 pub fn widen16(from: &[u16], to: &mut [u64])
     requires { ⌜ length (now from) ≤ length (now to) ⌝ }
+    ensures { λ _. ⌜ now (to .exit) ≡ paste (now (to .entry)) 0 (now (from .entry)) (length (now (from .entry))) ⌝ }
 {
     let mut i = 0;
     while i < from.len() {

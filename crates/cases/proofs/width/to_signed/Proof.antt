@@ -1,20 +1,42 @@
 -- As for narrow16.
 use Prim.Native.Nat.{_-_}
-use mathlib.Core.Path.{_≡_}
+use mathlib.Core.List.{map}
+use mathlib.Core.Path.{sym, _∙_}
 use native.Mathlib.Omega.{arith}
-use lib.ListN.{length, length-set}
+use lib.ListN.{length-map, List·getD-map}
+use mir.Syntax.{w64}
+use mir.Val.{toZ, ofZ}
+use mir.Facts.{toZ-ofZ}
+use Rattle.cases.specs.Signed.{signedOf}
+use Rattle.cases.proofs.Copied.{Copied, copied-none, copied-more, copied-all}
 use borrow.Author.Needs.{needs}
 use Rattle.cases.proofs.width.to_signed.Statement.{statement}
 use Rattle.cases.proofs.width.to_signed.Tie as tie
 
 abbrev Inv-loop : tie.InvT-loop
-Inv-loop from n to₀ i₀ to i = length to ≡ length to₀
+Inv-loop from n to₀ i₀ to i = Copied (map signedOf from) to₀ n i to
 
 abbrev μ-loop : tie.MeasureT-loop
 μ-loop from n to₀ i₀ to i = n - i
 
+loop-holds : tie.Need-loop-holds Inv-loop μ-loop
+loop-holds c = let a = c .before .args in copied-none (map signedOf (a .from .now)) (a .to .now) (a .n)
+
 loop-again : tie.Need-loop-again Inv-loop μ-loop
-loop-again c = simp length-set (omega arith)
+loop-again c =
+    let a = c .before .before .before .before .before .args in
+    let l = c .before .before .before .loop in
+    copied-more (map signedOf (a .from .now)) (a .to .now) (a .n) (toZ w64 (ofZ w64 (c .of-bits .result))) (signedOf 0)
+    (omega (arith, length-map (a .from .now) signedOf))
+    (omega arith)
+    (l .inv)
+    (c .before .before .loop-test .taken)
+    (toZ-ofZ {w = w64} (record { sfits = c .of-bits .ok }) ∙ c .of-bits .ensures ∙ sym (List·getD-map signedOf (a .from .now) (l .i) 0))
+
+returns : tie.Need-returns Inv-loop μ-loop
+returns c =
+    let a = c .before .before .before .args in
+    copied-all (map signedOf (a .from .now)) (a .to .now) (a .n) (c .before .loop .inv) (c .loop-test .left)
 
 pub to-signed-spec : {M : Type 1} → statement M
 to-signed-spec =
@@ -22,7 +44,7 @@ to-signed-spec =
     (tie.spec
     Inv-loop
     μ-loop
-    (λ c. search needs)
+    loop-holds
     (λ c. search needs)
     (λ c. search needs)
     (λ c κs. search needs)
@@ -32,4 +54,4 @@ to-signed-spec =
     (λ c. search needs)
     loop-again
     (λ c. search needs)
-    (λ c. search needs))
+    returns)
