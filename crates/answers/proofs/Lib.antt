@@ -3,4 +3,6 @@ pub mod Limits
 pub mod Laws
 pub mod AuditLaws
 pub mod CoreLaws
+pub mod LevelLaws
+pub mod ShortArc
 pub mod Table

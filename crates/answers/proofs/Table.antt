@@ -10,10 +10,12 @@ use Rattle.answers.specs.Members.{memberCountAnswer, membersAnswer, memb
 use Rattle.answers.specs.Needs.{needsAnswer, needsList}
 use Rattle.answers.specs.GroupCost.{groupCostAnswer}
 use Rattle.answers.specs.Audit.{verdict, auditAnswer, auditWords}
+use Rattle.game.specs.Level.{firstLeast, units, arcsDown}
+use Rattle.answers.specs.Level.{shortArc, levelAnswer, levelList}
 use Rattle.answers.specs.Table.{Table}
 
 pub table : Table
-unfolding climb used groupCost sumBelow wholeCost membersTo hasChild bit size wordsOf pays groups best named arcsCheck treeCheck bitsCheck rangeCheck memberCountAnswer membersAnswer membersList needsAnswer needsList groupCostAnswer verdict auditAnswer auditWords
+unfolding climb used groupCost sumBelow wholeCost membersTo hasChild bit size wordsOf pays groups best named arcsCheck treeCheck bitsCheck rangeCheck memberCountAnswer membersAnswer membersList needsAnswer needsList groupCostAnswer verdict auditAnswer auditWords firstLeast units arcsDown shortArc levelAnswer levelList
 table =
     record {
       T-members = refl;
@@ -35,4 +37,14 @@ table =
       T-less-1-13-4-words = refl;
       W-7-7-6 = refl;
       W-7-7-6-words = refl;
+      T-level-100 = refl;
+      T-level-100-list = refl;
+      T-level-3-9-4 = refl;
+      T-level-3-9-4-list = refl;
+      T-level-3-8-100 = refl;
+      T-level-3-8-100-list = refl;
+      U-level-3-100 = refl;
+      U-level-3-100-list = refl;
+      T-level-0 = refl;
+      U-level-100-list = refl;
     }

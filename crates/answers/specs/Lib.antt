@@ -4,7 +4,9 @@ pub mod Members
 pub mod Needs
 pub mod GroupCost
 pub mod Audit
+pub mod Level
 pub mod Laws
 pub mod AuditLaws
 pub mod CoreLaws
+pub mod LevelLaws
 pub mod Table

@@ -10,10 +10,15 @@ use Rattle.answers.specs.Members.{memberCountAnswer, membersAnswer, memb
 use Rattle.answers.specs.Needs.{needsAnswer, needsList}
 use Rattle.answers.specs.GroupCost.{groupCostAnswer}
 use Rattle.answers.specs.Audit.{wrongTotal, objection, pass, auditAnswer, auditWords}
+use Rattle.answers.specs.Level.{split, refusal, levelAnswer, levelList}
 
 -- document 01's tree T
 abbrev pub T : Tree
 T = record { parents = 0 ∷ 1 ∷ 1 ∷ 0 ∷ []; costs = 6 ∷ 1 ∷ 5 ∷ 4 ∷ [] }
+
+-- document 01's tree U
+abbrev pub U : Tree
+U = record { parents = 0 ∷ 1 ∷ 1 ∷ []; costs = 7 ∷ 0 ∷ 0 ∷ [] }
 
 -- document 01's tree W
 abbrev pub W : Tree
@@ -43,3 +48,14 @@ pub record Table : Type 0 where
   pub T-less-1-13-4-words : auditWords T (negsuc 0 ∷ pos 13 ∷ pos 4 ∷ []) ≡ group 2
   pub W-7-7-6 : auditAnswer W (pos 7 ∷ pos 7 ∷ pos 6 ∷ []) ≡ value (objection 2 2)
   pub W-7-7-6-words : auditWords W (pos 7 ∷ pos 7 ∷ pos 6 ∷ []) ≡ group 3
+  pub T-level-100 : levelAnswer T (100 ∷ 100 ∷ 100 ∷ []) (9 ∷ 9 ∷ 9 ∷ []) ≡ split 3
+  pub T-level-100-list : levelList T (100 ∷ 100 ∷ 100 ∷ []) (9 ∷ 9 ∷ 9 ∷ []) ≡ 6 ∷ 6 ∷ 4 ∷ []
+  pub T-level-3-9-4 : levelAnswer T (3 ∷ 9 ∷ 4 ∷ []) (9 ∷ 9 ∷ 9 ∷ []) ≡ split 3
+  pub T-level-3-9-4-list : levelList T (3 ∷ 9 ∷ 4 ∷ []) (9 ∷ 9 ∷ 9 ∷ []) ≡ 3 ∷ 9 ∷ 4 ∷ []
+  pub T-level-3-8-100 : levelAnswer T (3 ∷ 8 ∷ 100 ∷ []) (9 ∷ 9 ∷ 9 ∷ []) ≡ refusal 9 1 1
+  pub T-level-3-8-100-list : levelList T (3 ∷ 8 ∷ 100 ∷ []) (9 ∷ 9 ∷ 9 ∷ []) ≡ 9 ∷ 9 ∷ 9 ∷ []
+  pub U-level-3-100 : levelAnswer U (3 ∷ 100 ∷ []) (9 ∷ 9 ∷ []) ≡ split 2
+  pub U-level-3-100-list : levelList U (3 ∷ 100 ∷ []) (9 ∷ 9 ∷ []) ≡ 3 ∷ 4 ∷ []
+  -- beyond document 01's rows: every arc is short, and a rest of 1 between two users
+  pub T-level-0 : levelAnswer T (0 ∷ 0 ∷ 0 ∷ []) (9 ∷ 9 ∷ 9 ∷ []) ≡ refusal 9 4 4
+  pub U-level-100-list : levelList U (100 ∷ 100 ∷ []) (9 ∷ 9 ∷ []) ≡ 4 ∷ 3 ∷ []

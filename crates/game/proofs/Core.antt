@@ -45,7 +45,7 @@ module _ (n : Network) (shares : List ℤ) where
           ))
 
   -- what an arc's users have of a weight of the members: its sum at or below the arc
-  users-sum : (x : ℕ → ℕ) → OfMembers n x → (k : ℕ) → group-sum n shares x (users n k) ≡ sumBelow n x k
+  pub users-sum : (x : ℕ → ℕ) → OfMembers n x → (k : ℕ) → group-sum n shares x (users n k) ≡ sumBelow n x k
   unfolding sumBelow
   users-sum x of-members k =
       sum-cong (n .arcs)
@@ -107,7 +107,7 @@ module _ (n : Network) (rooted : Rooted n) (end : MembersEnd n) (shares : List �
   spare k = sumBelow n (over-at n shares) k - need n k
 
   module _ (core : CoreByNeed n shares) where
-    enough : (k : ℕ) → In (n .arcs) k → need n k ≤ sumBelow n (over-at n shares) k
+    pub enough : (k : ℕ) → In (n .arcs) k → need n k ≤ sumBelow n (over-at n shares) k
     enough k i = omega (arith, need-parts n shares core k i)
 
     -- over the children of a vertex

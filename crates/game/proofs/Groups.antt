@@ -117,7 +117,7 @@ module _ (n : Network) (rooted : Rooted n) where
       (below-cases n rooted k v b))
 
   -- a child is below its parent
-  child-below : (k u : ℕ) → In (n .arcs) u → n .parent u ≡ k → atOrBelow n k u ≡ true
+  pub child-below : (k u : ℕ) → In (n .arcs) u → n .parent u ≡ k → atOrBelow n k u ≡ true
   child-below k zero i e = absurd (omega arith)
   child-below k (suc u) i e = below-parent n rooted k u (subst (λ (w : ℕ). atOrBelow n k w ≡ true) (sym e) (below-self n rooted k))
 

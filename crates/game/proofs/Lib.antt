@@ -18,3 +18,8 @@ pub mod Encoding
 pub mod ExcessOf
 pub mod Bounds
 pub mod Core
+pub mod Bump
+pub mod Smallest
+pub mod Descent
+pub mod LevelRule
+pub mod LevelList

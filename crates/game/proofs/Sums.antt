@@ -122,3 +122,12 @@ sum-pos (suc m) f h =
       | yes l ↦ record { which = suc m; within = in-last m; passes = lt-ltb 0 (f (suc m)) l }
       | no l ↦ some-more m (sum-pos m f (omega arith))
     ]
+
+-- where one sum is above another, one of its terms is
+pub sum-more-some : (m : ℕ) (f g : ℕ → ℕ) → sum m f < sum m g → Some m (λ k. ltb (f k) (g k))
+sum-more-some zero f g h = absurd (omega arith)
+sum-more-some (suc m) f g h =
+    elim (decLt (f (suc m)) (g (suc m))) [
+      | yes l ↦ record { which = suc m; within = in-last m; passes = lt-ltb (f (suc m)) (g (suc m)) l }
+      | no l ↦ some-more m (sum-more-some m f g (omega arith))
+    ]

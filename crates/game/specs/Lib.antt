@@ -5,3 +5,4 @@ pub mod Group
 pub mod Proposal
 pub mod Search
 pub mod Core
+pub mod Level

@@ -1,0 +1,65 @@
+-- The rule's choice: one that passes the test with the smallest x, where there is one.
+use Prim.Native.Nat.{ℕ, zero, suc, pred, _≤_, _<_}
+use mathlib.Core.Path.{_≡_, refl, sym, ap, _∙_}
+use mathlib.Core.Bool.{Bool, true, false, _&&_, _||_}
+use mathlib.Core.Logic.{⊎-elim}
+use native.Mathlib.Decide.{decLt}
+use native.Mathlib.Omega.{arith}
+use borrow.Author.Tests.{eqb-true, eqb-false, ltb-true, ltb-false}
+use lib.Dec.{eqb, ltb}
+use Rattle.game.specs.Level.{orKeep, firstLeast}
+use Rattle.game.proofs.Bools.{both, and-first, and-second, or-cases, neither-first, neither-second}
+
+module _ (may : ℕ → Bool) (x : ℕ → ℕ) where
+  -- c is the best of the numbers below v, or 0 where none of them passes
+  pub record Least (v c : ℕ) : Type 0 where
+    pub is-one : (c ≡ 0 → ⊥) → (pred c < v) × (may (pred c) ≡ true)
+    pub is-least : (u : ℕ) → u < v → may u ≡ true → (c ≡ 0 → ⊥) × (x (pred c) ≤ x u)
+
+  -- one number more
+  least-more : (v c : ℕ) → Least v c → Least (suc v) (orKeep may x v c)
+  least-more v c l =
+      ⊎-elim
+      (λ (e : (may v && beats) ≡ true). rw e (taken e))
+      (λ (e : (may v && beats) ≡ false). rw e (kept e))
+      (both (may v && beats))
+    where
+      beats : Bool
+      beats = eqb c 0 || ltb (x v) (x (pred c))
+
+      taken : (may v && beats) ≡ true → Least (suc v) (suc v)
+      taken e =
+          record {
+            is-one = λ h. (omega arith, and-first (may v) beats e);
+            is-least = λ u i m. (λ z. omega arith, elim (decLt u v) [ yes j ↦ before u j m | no j ↦ here u (omega arith) ]);
+          }
+        where
+          before : (u : ℕ) → u < v → may u ≡ true → x v ≤ x u
+          before u j m =
+              let b = l .is-least u j m in
+              ⊎-elim
+              (λ (z : eqb c 0 ≡ true). absurd (b .0 (eqb-true c 0 z)))
+              (λ (a : ltb (x v) (x (pred c)) ≡ true). omega (arith, ltb-true (x v) (x (pred c)) a, b .1))
+              (or-cases (eqb c 0) (ltb (x v) (x (pred c))) (and-second (may v) beats e))
+
+          here : (u : ℕ) → u ≡ v → x v ≤ x u
+          here u d = omega (arith, ap x d)
+
+      kept : (may v && beats) ≡ false → Least (suc v) c
+      kept e =
+          record {
+            is-one = λ h. (omega (arith, l .is-one h .0), l .is-one h .1);
+            is-least = λ u i m. elim (decLt u v) [ yes j ↦ l .is-least u j m | no j ↦ here u m (omega arith) ];
+          }
+        where
+          here : (u : ℕ) → may u ≡ true → u ≡ v → (c ≡ 0 → ⊥) × (x (pred c) ≤ x u)
+          here u m d =
+              let none : beats ≡ false = rw (sym (ap may d) ∙ m) at e in (
+                eqb-false c 0 (neither-first (eqb c 0) (ltb (x v) (x (pred c))) none),
+                omega (arith, ltb-false (x v) (x (pred c)) (neither-second (eqb c 0) (ltb (x v) (x (pred c))) none), ap x d),
+              )
+
+  pub first-least : (v : ℕ) → Least v (firstLeast may x v)
+  unfolding firstLeast
+  first-least zero = record { is-one = λ h. absurd (h refl); is-least = λ u i. absurd (omega arith) }
+  first-least (suc v) = least-more v (firstLeast may x v) (first-least v)
