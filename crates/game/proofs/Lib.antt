@@ -23,3 +23,4 @@ pub mod Smallest
 pub mod Descent
 pub mod LevelRule
 pub mod LevelList
+pub mod Raise

@@ -3,12 +3,12 @@ use Prim.Native.Nat.{ℕ, zero, suc, pred, _≤_, _<_}
 use mathlib.Core.Path.{_≡_, refl, sym, ap, _∙_}
 use mathlib.Core.Bool.{Bool, true, false, _&&_, _||_}
 use mathlib.Core.Logic.{⊎-elim}
-use native.Mathlib.Decide.{decLt}
+use native.Mathlib.Decide.{decLt, ℕ-discrete}
 use native.Mathlib.Omega.{arith}
-use borrow.Author.Tests.{eqb-true, eqb-false, ltb-true, ltb-false}
+use borrow.Author.Tests.{eqb-true, eqb-false, eq-eqb, ltb-true, ltb-false, lt-ltb}
 use lib.Dec.{eqb, ltb}
 use Rattle.game.specs.Level.{orKeep, firstLeast}
-use Rattle.game.proofs.Bools.{both, and-first, and-second, or-cases, neither-first, neither-second}
+use Rattle.game.proofs.Bools.{both, not-so, and-both, and-first, and-second, or-first, or-second, or-cases, neither-first, neither-second}
 
 module _ (may : ℕ → Bool) (x : ℕ → ℕ) where
   -- c is the best of the numbers below v, or 0 where none of them passes
@@ -63,3 +63,40 @@ module _ (may : ℕ → Bool) (x : ℕ → ℕ) where
   unfolding firstLeast
   first-least zero = record { is-one = λ h. absurd (h refl); is-least = λ u i. absurd (omega arith) }
   first-least (suc v) = least-more v (firstLeast may x v) (first-least v)
+
+  -- the choice is the first where the ones before it have more and the others no less
+  module _ (q : ℕ) (m : may q ≡ true) (before : (u : ℕ) → u < q → may u ≡ true → x q < x u) where
+    taken-here : firstLeast may x (suc q) ≡ suc q
+    unfolding firstLeast
+    taken-here = rw (and-both m beats)
+      where
+        c : ℕ
+        c = firstLeast may x q
+
+        beats : (eqb c 0 || ltb (x q) (x (pred c))) ≡ true
+        beats =
+            elim (ℕ-discrete c 0) [
+              | yes z ↦ or-first (ltb (x q) (x (pred c))) (eq-eqb c 0 z)
+              | no z ↦ let o = first-least q .is-one z in or-second (eqb c 0) (lt-ltb (x q) (x (pred c)) (before (pred c) (o .0) (o .1)))
+            ]
+
+    pub is-first : (v : ℕ) → q < v → ((u : ℕ) → u < v → may u ≡ true → x q ≤ x u) → firstLeast may x v ≡ suc q
+    unfolding firstLeast
+    is-first zero h least = absurd (omega arith)
+    is-first (suc v) h least =
+        elim (ℕ-discrete v q) [
+          | yes d ↦ ap (λ (u : ℕ). firstLeast may x (suc u)) d ∙ taken-here
+          | no d ↦ ap (orKeep may x v) (is-first v (omega arith) (λ u j. least u (omega arith))) ∙ rw stays refl
+        ]
+      where
+        beats : Bool
+        beats = eqb (suc q) 0 || ltb (x v) (x q)
+
+        stays : (may v && beats) ≡ false
+        stays =
+            not-so (may v && beats)
+            (λ e.
+            ⊎-elim
+            (λ (z : eqb (suc q) 0 ≡ true). omega (arith, eqb-true (suc q) 0 z))
+            (λ (b : ltb (x v) (x q) ≡ true). omega (arith, ltb-true (x v) (x q) b, least v (omega arith) (and-first (may v) beats e)))
+            (or-cases (eqb (suc q) 0) (ltb (x v) (x q)) (and-second (may v) beats e)))

@@ -6,3 +6,4 @@ pub mod Proposal
 pub mod Search
 pub mod Core
 pub mod Level
+pub mod Raise

@@ -1,0 +1,215 @@
+-- Units given out one by one raise an arc's users to a level, the lowest numbers first.
+use Prim.Native.Nat.{ℕ, zero, suc, pred, _+_, _-_, _≤_, _<_}
+use mathlib.Core.Path.{_≡_, sym, ap, _∙_, subst}
+use mathlib.Core.Bool.{true, false}
+use mathlib.Core.Logic.{⊎-elim}
+use mathlib.Core.List.{List}
+use native.Mathlib.Decide.{decLt, ℕ-discrete}
+use native.Mathlib.Numerals.{add-one}
+use native.Mathlib.Omega.{arith}
+use borrow.Author.Tests.{eq-eqb, ne-eqb, ltb-true, ltb-false, lt-ltb, le-ltb}
+use lib.ListN.{length, getD, set, length-set}
+use lib.Seq.{getD-set-same, getD-set-other}
+use lib.Dec.{eqb, ltb}
+use Rattle.game.specs.Sum.{pick}
+use Rattle.game.specs.Network.{Network, memberCount}
+use Rattle.game.specs.Core.{users}
+use Rattle.game.specs.Level.{mayTake, firstLeast, unit, units}
+use Rattle.game.specs.Raise.{smaller, rise, fill}
+use Rattle.game.proofs.Bools.{both, clash, and-both, and-first, and-second, pick-yes, pick-no}
+use Rattle.game.proofs.Sums.{sum-cong, sum-add, sum-zero, sum-at}
+use Rattle.game.proofs.Smallest.{is-first}
+
+smaller-is : (a b : ℕ) → smaller a b ≡ a - (a - b)
+smaller-is a b =
+    ⊎-elim
+    (λ (e : ltb a b ≡ true). rw e (omega (arith, ltb-true a b e)))
+    (λ (e : ltb a b ≡ false). rw e (omega (arith, ltb-false a b e)))
+    (both (ltb a b))
+
+module _ (n : Network) (caps : List ℕ) (k : ℕ) (l : List ℕ) where
+  -- r is the list l with arc k's users raised
+  pub record Raised (level q : ℕ) (r : List ℕ) : Type 0 where
+    pub sized : length r ≡ memberCount n
+    pub raised : (j : ℕ) → j < memberCount n → getD r j 0 ≡ getD l j 0 + rise n caps k l level q j
+
+  -- another user's part is the same
+  rise-other : (level q j : ℕ) → (j ≡ q → ⊥) → rise n caps k l level (suc q) j ≡ rise n caps k l level q j
+  rise-other level q j d =
+      elim (decLt j q) [
+        | yes h ↦ ap (λ b. pick (users n k j) (smaller (getD caps j 0) (level + pick b 1) - getD l j 0)) (lt-ltb j (suc q) (omega arith) ∙ sym (lt-ltb j q h))
+        | no h ↦ ap (λ b. pick (users n k j) (smaller (getD caps j 0) (level + pick b 1) - getD l j 0)) (le-ltb j (suc q) (omega arith) ∙ sym (le-ltb j q (omega arith)))
+      ]
+
+  -- what a user has where it was raised, to its own level
+  rise-user : (level q j : ℕ) → users n k j ≡ true → rise n caps k l level q j ≡ (getD caps j 0 - (getD caps j 0 - (level + pick (ltb j q) 1))) - getD l j 0
+  rise-user level q j u =
+      pick-yes (smaller (getD caps j 0) (level + pick (ltb j q) 1) - getD l j 0) u
+      ∙ ap (λ (a : ℕ). a - getD l j 0) (smaller-is (getD caps j 0) (level + pick (ltb j q) 1))
+
+  -- nobody takes anything at level 0
+  raised-none : (j : ℕ) → rise n caps k l 0 0 j ≡ 0
+  raised-none j =
+      ⊎-elim
+      (λ (u : users n k j ≡ true). omega (arith, rise-user 0 0 j u, pick-no 1 (le-ltb j 0 (omega arith))))
+      (λ (u : users n k j ≡ false). pick-no (smaller (getD caps j 0) (0 + pick (ltb j 0) 1) - getD l j 0) u)
+      (both (users n k j))
+
+  -- all numbers served at a level are none at the next
+  next-level : (level j : ℕ) → j < memberCount n → rise n caps k l level (memberCount n) j ≡ rise n caps k l (suc level) 0 j
+  next-level level j h =
+      ap (λ (a : ℕ). pick (users n k j) (smaller (getD caps j 0) a - getD l j 0))
+      (omega (arith, pick-yes 1 (lt-ltb j (memberCount n) h), pick-no 1 (le-ltb j 0 (omega arith))))
+
+  -- number q is served on the way from a level to the next
+  pub record Served (level q : ℕ) : Type 0 where
+    pub is-user : users n k q ≡ true
+    pub reached : getD l q 0 ≤ level
+    pub room : level < getD caps q 0
+
+  module _ (level q : ℕ) where
+    rise-served : Served level q → rise n caps k l level (suc q) q ≡ rise n caps k l level q q + 1
+    rise-served s =
+        omega (
+          arith,
+          rise-user level (suc q) q (s .is-user),
+          rise-user level q q (s .is-user),
+          pick-yes 1 (lt-ltb q (suc q) (omega arith)),
+          pick-no 1 (le-ltb q q (omega arith)),
+          s .reached,
+          s .room,
+        )
+
+    rise-not : (Served level q → ⊥) → rise n caps k l level (suc q) q ≡ rise n caps k l level q q
+    rise-not unserved =
+        ⊎-elim
+        (λ (u : users n k q ≡ true).
+        let above = rise-user level (suc q) q u in
+        let here = rise-user level q q u in
+        let one = pick-yes 1 (lt-ltb q (suc q) (omega arith)) in
+        let none = pick-no 1 (le-ltb q q (omega arith)) in
+        elim (decLt level (getD l q 0)) [
+          | yes h ↦ omega (arith, above, here, one, none)
+          | no h ↦ elim (decLt level (getD caps q 0)) [
+            | yes r ↦ absurd (unserved (record { is-user = u; reached = omega arith; room = r }))
+            | no r ↦ omega (arith, above, here, one, none)
+          ]
+        ])
+        (λ (u : users n k q ≡ false).
+        pick-no (smaller (getD caps q 0) (level + pick (ltb q (suc q)) 1) - getD l q 0) u
+        ∙ sym (pick-no (smaller (getD caps q 0) (level + pick (ltb q q) 1) - getD l q 0) u))
+        (both (users n k q))
+
+    -- the others' parts are the same, so the sum goes with q's
+    fill-not : (Served level q → ⊥) → fill n caps k l level (suc q) ≡ fill n caps k l level q
+    fill-not unserved =
+        sum-cong (memberCount n)
+        (λ i h. elim (ℕ-discrete (pred i) q) [ yes d ↦ subst (λ (j : ℕ). rise n caps k l level (suc q) j ≡ rise n caps k l level q j) (sym d) (rise-not unserved) | no d ↦ rise-other level q (pred i) d ])
+
+    fill-served : q < memberCount n → Served level q → fill n caps k l level (suc q) ≡ fill n caps k l level q + 1
+    fill-served h s =
+        sum-cong (memberCount n) (λ i j. one-more i (j .low))
+        ∙ sum-add (memberCount n) (λ i. rise n caps k l level q (pred i)) (λ i. pick (eqb (suc q) i) 1)
+        ∙ ap (λ (a : ℕ). fill n caps k l level q + a) (sum-at (memberCount n) (suc q) (λ i. 1) (omega arith))
+      where
+        one-more : (i : ℕ) → 0 < i → rise n caps k l level (suc q) (pred i) ≡ rise n caps k l level q (pred i) + pick (eqb (suc q) i) 1
+        one-more i p =
+            elim (ℕ-discrete (pred i) q) [
+              | yes d ↦
+                  let same : suc q ≡ i = omega arith in
+                  omega (
+                    arith,
+                    pick-yes 1 (eq-eqb (suc q) i same),
+                    subst (λ (j : ℕ). rise n caps k l level (suc q) j ≡ rise n caps k l level q j + 1) (sym d) (rise-served s),
+                  )
+              | no d ↦ omega (arith, pick-no 1 (ne-eqb (suc q) i (λ e. d (omega arith))), rise-other level q (pred i) d)
+            ]
+
+    -- the rule's next unit goes to q
+    module _ (r : List ℕ) (h : q < memberCount n) (s : Served level q) (up : Raised level q r) where
+      has-level : getD r q 0 ≡ level
+      has-level = omega (arith, up .raised q h, rise-user level q q (s .is-user), pick-no 1 (le-ltb q q (omega arith)), s .reached, s .room)
+
+      may-q : mayTake n caps k r q ≡ true
+      may-q = and-both (s .is-user) (lt-ltb (getD r q 0) (getD caps q 0) (omega (arith, has-level, s .room)))
+
+      -- one that may take a unit has its level or more
+      at-least : (u : ℕ) → u < memberCount n → mayTake n caps k r u ≡ true → level + pick (ltb u q) 1 ≤ getD r u 0
+      at-least u i m =
+          omega (
+            arith,
+            up .raised u i,
+            rise-user level q u (and-first (users n k u) (ltb (getD r u 0) (getD caps u 0)) m),
+            ltb-true (getD r u 0) (getD caps u 0) (and-second (users n k u) (ltb (getD r u 0) (getD caps u 0)) m),
+          )
+
+      chosen : firstLeast (mayTake n caps k r) (λ j. getD r j 0) (memberCount n) ≡ suc q
+      chosen =
+          is-first (mayTake n caps k r) (λ j. getD r j 0) q may-q (λ u i m. omega (arith, has-level, at-least u (omega arith) m, pick-yes 1 (lt-ltb u q i))) (memberCount n) h
+          (λ u i m. omega (arith, has-level, at-least u i m))
+
+      raised-unit : Raised level (suc q) (unit n caps k r)
+      raised-unit =
+          rw chosen
+          (record {
+            sized = length-set r q (getD r q 0 + 1) ∙ up .sized;
+            raised = λ j i.
+                elim (ℕ-discrete j q) [
+                  | yes d ↦ subst (λ (u : ℕ). getD (set r q (getD r q 0 + 1)) u 0 ≡ getD l u 0 + rise n caps k l level (suc q) u) (sym d)
+                      (omega (arith, getD-set-same r q (getD r q 0 + 1) 0 (omega (arith, up .sized)), up .raised q h, rise-served s))
+                  | no d ↦ omega (arith, getD-set-other r q j (getD r q 0 + 1) 0 d, up .raised j i, rise-other level q j d)
+                ];
+          })
+
+    raised-same : (r : List ℕ) → (Served level q → ⊥) → Raised level q r → Raised level (suc q) r
+    raised-same r unserved up =
+        record {
+          sized = up .sized;
+          raised = λ j i.
+              elim (ℕ-discrete j q) [
+                | yes d ↦ subst (λ (u : ℕ). getD r u 0 ≡ getD l u 0 + rise n caps k l level (suc q) u) (sym d) (omega (arith, up .raised q (omega arith), rise-not unserved))
+                | no d ↦ omega (arith, up .raised j i, rise-other level q j d)
+              ];
+        }
+
+  one-number : (level q : ℕ) → q < memberCount n → Raised level q (units n caps k (fill n caps k l level q) l)
+      → Raised level (suc q) (units n caps k (fill n caps k l level (suc q)) l)
+  unfolding units
+  one-number level q h up =
+      ⊎-elim
+      (λ (u : users n k q ≡ true).
+      elim (decLt level (getD caps q 0)) [
+        | yes r ↦ elim (decLt level (getD l q 0)) [ yes g ↦ without (λ s. omega (arith, s .reached)) | no g ↦ with-one (record { is-user = u; reached = omega arith; room = r }) ]
+        | no r ↦ without (λ s. omega (arith, s .room))
+      ])
+      (λ (u : users n k q ≡ false). without (λ s. clash (s .is-user) u))
+      (both (users n k q))
+    where
+      with-one : Served level q → Raised level (suc q) (units n caps k (fill n caps k l level (suc q)) l)
+      with-one s =
+          subst (λ (t : ℕ). Raised level (suc q) (units n caps k t l)) (sym (fill-served level q h s ∙ add-one (fill n caps k l level q)))
+          (raised-unit level q (units n caps k (fill n caps k l level q) l) h s up)
+
+      without : (Served level q → ⊥) → Raised level (suc q) (units n caps k (fill n caps k l level (suc q)) l)
+      without unserved =
+          subst (λ (t : ℕ). Raised level (suc q) (units n caps k t l)) (sym (fill-not level q unserved))
+          (raised-same level q (units n caps k (fill n caps k l level q) l) unserved up)
+
+  up-to : (level q : ℕ) → q ≤ memberCount n → Raised level 0 (units n caps k (fill n caps k l level 0) l) → Raised level q (units n caps k (fill n caps k l level q) l)
+  up-to level zero h up = up
+  up-to level (suc q) h up = one-number level q h (up-to level q (omega arith) up)
+
+  to-next : (level : ℕ) → Raised level (memberCount n) (units n caps k (fill n caps k l level (memberCount n)) l)
+      → Raised (suc level) 0 (units n caps k (fill n caps k l (suc level) 0) l)
+  to-next level full =
+      subst (λ (t : ℕ). Raised (suc level) 0 (units n caps k t l)) (sum-cong (memberCount n) (λ i j. next-level level (pred i) (omega (arith, j .low, j .high))))
+      (record { sized = full .sized; raised = λ j i. full .raised j i ∙ ap (λ (a : ℕ). getD l j 0 + a) (next-level level j i) })
+
+  -- as many units as a level takes, given out one by one, raise arc k's users to that level
+  pub units-raise : length l ≡ memberCount n → (level q : ℕ) → q ≤ memberCount n → Raised level q (units n caps k (fill n caps k l level q) l)
+  unfolding units
+  units-raise len zero q h =
+      up-to 0 q h
+      (subst (λ (t : ℕ). Raised 0 0 (units n caps k t l)) (sym (sum-zero (memberCount n) (λ i j. raised-none (pred i))))
+      (record { sized = len; raised = λ j i. omega (arith, raised-none j) }))
+  units-raise len (suc level) q h = up-to (suc level) q h (to-next level (units-raise len level (memberCount n) (omega arith)))
