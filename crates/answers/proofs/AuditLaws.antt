@@ -6,7 +6,7 @@ use mathlib.Core.Logic.{⊎-elim}
 use mathlib.Core.List.{List}
 use native.Mathlib.Decide.{decLt}
 use native.Mathlib.Omega.{arith}
-use borrow.Author.Tests.{eqb-true, ltb-true, ltb-false, le-ltb}
+use borrow.Author.Tests.{eqb-true, ltb-true, ltb-false, lt-ltb, le-ltb}
 use lib.IntN.{ℤ, pos, negsuc}
 use lib.Signed.{_≤ℤ_, ≤ℤ-refl}
 use lib.Dec.{ltb, leb→le, le→leb}
@@ -57,6 +57,10 @@ passed (negsuc a) s e = record { le = tt }
 passes-by : (o : ℤ) (s : ℕ) → o ≤ℤ pos 0 → groupVerdict o s ≡ pass
 passes-by (pos a) s h = rw (le-ltb 0 a (leb→le a 0 (h .le)))
 passes-by (negsuc a) s h = refl
+
+objects-by : (o : ℤ) (s : ℕ) → (o ≤ℤ pos 0 → ⊥) → (a : ℕ) × (groupVerdict o s ≡ objection a s)
+objects-by (pos a) s h = elim (decLt 0 a) [ yes l ↦ (a, rw (lt-ltb 0 a l)) | no l ↦ absurd (h (record { le = le→leb a 0 (omega arith) })) ]
+objects-by (negsuc a) s h = absurd (h (record { le = tt }))
 
 never-total : (o : ℤ) (s : ℕ) {d : ℤ} → groupVerdict o s ≡ wrongTotal d → ⊥
 never-total (pos a) s e =
@@ -193,10 +197,26 @@ module _ (t : Tree) (shares : List ℤ) (ok : auditCheck t shares ≡ accepted) 
                 | no l ↦ ap (λ (w : List ℕ). bit w j) words ∙ bit-beyond theNamed j (omega arith)
               ]
 
+  objects-then : ((amount : ℕ) × (members : ℕ) × (auditAnswer t shares ≡ value (objection amount members)))
+      → (difference n shares ≡ pos 0) × (g : ℕ → Bool) × (overpayment n shares g ≤ℤ pos 0 → ⊥)
+  objects-then (amount, members, e) =
+      let o = object-then amount members e in (
+        by-total (is-zero (difference n shares)) (λ z. absurd (objection-not-total (sym (off-total z) ∙ verdict-of e))),
+        theGroup t shares,
+        λ h. omega (arith, o .above-zero, leb→le amount 0 (subst (λ (x : ℤ). x ≤ℤ pos 0) (o .overpays) h .le)),
+      )
+
+  objects-where : ((difference n shares ≡ pos 0) × (g : ℕ → Bool) × (overpayment n shares g ≤ℤ pos 0 → ⊥))
+      → (amount : ℕ) × (members : ℕ) × (auditAnswer t shares ≡ value (objection amount members))
+  objects-where (right, g, more) =
+      let by = objects-by (overpayment n shares theNamed) (size (memberCount n) theNamed) (λ h. more (le-trans-ℤ (most g) h)) in
+      by-total (λ z. (by .0, size (memberCount n) theNamed, answered ∙ ap value (right-total z ∙ by .1))) (λ z. absurd (not-zero (difference n shares) z right))
+
 pub audit-laws : AuditStatement
 audit-laws t shares ok =
     record {
       passes = (passes-then t shares ok, passes-where t shares ok);
       wrong-total = λ d. (total-then t shares ok d, total-where t shares ok d);
+      objects-exactly = (objects-then t shares ok, objects-where t shares ok);
       objects = object-then t shares ok;
     }

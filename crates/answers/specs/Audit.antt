@@ -31,9 +31,13 @@ groupVerdict (negsuc a) members = pass
 abbrev pub searchVerdict : Network → List ℤ → Verdict
 searchVerdict n shares = groupVerdict (overpayment n shares (isIn (named n shares))) (size (memberCount n) (isIn (named n shares)))
 
+-- the total check by itself
+abbrev pub addsUp : Network → List ℤ → Bool
+addsUp n shares = isZero (difference n shares)
+
 -- no group is sought where the total is wrong
 unfoldable pub verdict : Network → List ℤ → Verdict
-verdict n shares = cond (isZero (difference n shares)) (searchVerdict n shares) (wrongTotal (difference n shares))
+verdict n shares = cond (addsUp n shares) (searchVerdict n shares) (wrongTotal (difference n shares))
 
 -- 6 and 7 after the tree
 abbrev pub auditCheck : Tree → List ℤ → Check

@@ -34,6 +34,9 @@ pub record AuditLaws (t : Tree) (shares : List ℤ) : Type 0 where
       ↔ ((pays (network t) shares (λ j. true) ≡ pos (wholeCost (network t))) × ((g : ℕ → Bool) → pays (network t) shares g ≤ℤ pos (costOf t g)))
   -- a wrong total, exactly when the difference is not 0, and with that difference
   pub wrong-total : (d : ℤ) → (auditAnswer t shares ≡ value (wrongTotal d)) ↔ ((difference (network t) shares ≡ d) × (d ≡ pos 0 → ⊥))
+  -- an objection, exactly when the total is right and some group's overpayment is above 0
+  pub objects-exactly : ((amount : ℕ) × (members : ℕ) × (auditAnswer t shares ≡ value (objection amount members)))
+      ↔ ((difference (network t) shares ≡ pos 0) × (g : ℕ → Bool) × (overpayment (network t) shares g ≤ℤ pos 0 → ⊥))
   pub objects : (amount members : ℕ) → auditAnswer t shares ≡ value (objection amount members) → ObjectionLaws t shares amount members
 
 abbrev pub AuditStatement : Type 0

@@ -1,10 +1,13 @@
 -- Two answers of an entry that stand for the same value or refusal are the same: each answer can be read back.
 use Prim.Native.Nat.{ℕ}
 use mathlib.Core.Path.{_≡_, refl, sym, ap, _∙_}
-use Rattle.answers.specs.Answer.{Answer, value, refusal}
+use Rattle.answers.specs.Answer.{Answer, value, refusal, Check, accepted, refused}
 use Rattle.answers.specs.Needs.{NeedsValue}
 use Rattle.answers.specs.GroupCost.{GroupCostValue}
 use Rattle.answers.specs.Audit.{Verdict, wrongTotal, objection, pass}
+use Rattle.checks.specs.Checked.{checkOf}
+use Rattle.checks.specs.declared.Checked.{Checked}
+use Rattle.checks.specs.declared.Checked.the-variants.{Accepted, Refused as NotAccepted}
 use Rattle.engine.specs.Outcomes.{memberCountOf, needsOf, groupCostOf, auditOf}
 use Rattle.engine.specs.declared.members.MemberCount.{MemberCount}
 use Rattle.engine.specs.declared.members.MemberCount.the-variants.{Members, Refused as NoMembers}
@@ -17,6 +20,17 @@ use Rattle.engine.specs.declared.verdict.AuditFound.the-variants.{WrongT
 
 read-back : {A B : Type 0} (of : A → B) (back : B → A) → ((a : A) → back (of a) ≡ a) → (a b : A) → of a ≡ of b → a ≡ b
 read-back of back is a b e = sym (is a) ∙ ap back e ∙ is b
+
+abbrev check-back : Check → Checked
+check-back accepted = Accepted
+check-back (refused number place) = NotAccepted (record { number = number; place = place })
+
+check-is : (a : Checked) → check-back (checkOf a) ≡ a
+check-is Accepted = refl
+check-is (NotAccepted r) = refl
+
+pub check-one-to-one : (a b : Checked) → checkOf a ≡ checkOf b → a ≡ b
+check-one-to-one = read-back checkOf check-back check-is
 
 abbrev count-back : Answer ℕ → MemberCount
 count-back (value n) = Members n

@@ -10,11 +10,10 @@ use Rattle.game.specs.Sum.{pick}
 use Rattle.game.specs.Network.{Network, atOrBelow, user, used, groupCost, everyone, sumBelow, need, wholeCost, number}
 use Rattle.game.specs.Group.{byNumber}
 use Rattle.game.specs.Core.{users, others, bound, onlyTheirs, IsArc}
-use Rattle.game.proofs.Bools.{both, clash, not-so, and-both, and-first, and-second, same-test, pick-mono}
+use Rattle.game.proofs.Bools.{both, clash, not-so, and-both, and-first, and-second, same-test, pick-mono, pick-zero}
 use Rattle.game.proofs.Sums.{In, sum-cong, sum-mono, sum-parts}
 use Rattle.game.proofs.Below.{Rooted, below-trans, below-cases, below-comparable, below-le, below-self}
 use Rattle.game.proofs.Groups.{UsedBy, used-of, used-by}
-use Rattle.game.proofs.DeadEnds.{Ends, every-arc-used}
 use Rattle.game.proofs.Numbering.{member-at}
 use Rattle.game.proofs.Integers.{Less, less-parts, less-minus, less-same, less-le}
 
@@ -72,7 +71,7 @@ module _ (n : Network) (rooted : Rooted n) where
       (λ (h′ : atOrBelow n e (n .parent (suc k)) ≡ true). h′)
       (below-cases n rooted e k h)
 
-  module _ (ends : Ends n) (k : ℕ) (arc : IsArc n k) (free : (n .parent k ≡ 0) ⊎ OtherUser n k) where
+  module _ (unused-free : (e : ℕ) → In (n .arcs) e → used n everyone e ≡ false → n .cost e ≡ 0) (k : ℕ) (arc : IsArc n k) (free : (n .parent k ≡ 0) ⊎ OtherUser n k) where
     -- a user of an arc that does not use k
     others-by : (e v : ℕ) → In (n .arcs) v → user n e v ≡ true → atOrBelow n k v ≡ false → used n (byNumber n (others n k)) e ≡ true
     others-by e v i u out =
@@ -96,10 +95,10 @@ module _ (n : Network) (rooted : Rooted n) where
         (o .not-below))
         free
 
-    -- and so is every arc that is not at or below k
-    others-use : (e : ℕ) → In (n .arcs) e → atOrBelow n k e ≡ false → used n (byNumber n (others n k)) e ≡ true
-    others-use e i out =
-        let b = used-by n everyone e (every-arc-used n rooted ends e i) in
+    -- and so is every used arc that is not at or below k
+    others-use : (e : ℕ) → In (n .arcs) e → used n everyone e ≡ true → atOrBelow n k e ≡ false → used n (byNumber n (others n k)) e ≡ true
+    others-use e i by out =
+        let b = used-by n everyone e by in
         let below = and-second (n .member (b .by)) (atOrBelow n e (b .by)) (b .uses) in
         ⊎-elim
         (λ (h : atOrBelow n k (b .by) ≡ true).
@@ -110,19 +109,29 @@ module _ (n : Network) (rooted : Rooted n) where
         (λ (h : atOrBelow n k (b .by) ≡ false). others-by e (b .by) (b .within) (b .uses) h)
         (both (atOrBelow n k (b .by)))
 
+    only-at : (e : ℕ) → In (n .arcs) e → used n everyone e ≡ true → atOrBelow n k e ≡ not (used n (byNumber n (others n k)) e)
+    only-at e i by =
+        same-test (atOrBelow n k e) (not (used n (byNumber n (others n k)) e))
+        (λ h. ap not (not-others k e h))
+        (λ h.
+        ⊎-elim
+        (λ (d : atOrBelow n k e ≡ true). d)
+        (λ (d : atOrBelow n k e ≡ false). absurd (clash h (ap not (others-use e i by d))))
+        (both (atOrBelow n k e)))
+
     need-is-only : need n k ≡ onlyTheirs n k
     unfolding sumBelow onlyTheirs
     need-is-only =
         sum-cong (n .arcs)
         (λ e i.
-        ap (λ (b : Bool). pick b (n .cost e))
-        (same-test (atOrBelow n k e) (not (used n (byNumber n (others n k)) e))
-        (λ h. ap not (not-others k e h))
-        (λ h.
         ⊎-elim
-        (λ (d : atOrBelow n k e ≡ true). d)
-        (λ (d : atOrBelow n k e ≡ false). absurd (clash h (ap not (others-use e i d))))
-        (both (atOrBelow n k e)))))
+        (λ (by : used n everyone e ≡ true). ap (λ (b : Bool). pick b (n .cost e)) (only-at e i by))
+        (λ (by : used n everyone e ≡ false).
+        let z = unused-free e i by in
+        ap (pick (atOrBelow n k e)) z
+        ∙ pick-zero (atOrBelow n k e)
+        ∙ sym (ap (pick (not (used n (byNumber n (others n k)) e))) z ∙ pick-zero (not (used n (byNumber n (others n k)) e))))
+        (both (used n everyone e)))
 
     pub need-is-bound : pos (need n k) ≡ bound n k
     need-is-bound = ap pos need-is-only ∙ sym (bound-is-only-theirs n k)

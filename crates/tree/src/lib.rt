@@ -1,4 +1,4 @@
-// Passes over an accepted tree, from arc m down to arc 1, so that an arc is met after all arcs below it.
+// Passes over an accepted tree. Those that gather at the parents go from arc m down to arc 1, so that an arc is met after all arcs below it.
 // Arrays are indexed by vertex, place 0 for the source.
 mod group;
 mod members;

@@ -1,4 +1,4 @@
-// The members: the vertices from 1 on that have no child. Costs play no part in who is a member.
+// The members: the vertices from 1 on that have no child. Costs do not decide who is a member.
 ghost use mathlib.Core.Path.{_≡_};
 ghost use Prim.Native.Nat.{_≤_, _-_};
 ghost use mathlib.Core.Bool.{not, cond, false};

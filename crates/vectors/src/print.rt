@@ -3,13 +3,13 @@ use cases::print::labelled;
 use cases::print::labelled_signed;
 use cases::print::list;
 use cases::print::text;
-use checks::Checked;
-use checks::Refusal;
 use engine::AuditFound;
 use engine::Audited;
+use engine::Checked;
 use engine::GroupCost;
 use engine::MemberCount;
 use engine::NeedsFound;
+use engine::Refusal;
 
 pub fn bad_case() {
     text(b"bad case");

@@ -1,0 +1,69 @@
+"""Networks, groups and proposals that the cases use."""
+from rules import MOST_COST, MOST_SHARE, member_vertices, path, words_of
+
+T = [0, 1, 1, 0], [6, 1, 5, 4]
+U = [0, 1, 1], [7, 0, 0]
+W = [0, 1, 1, 0], [10, 1, 1, 8]
+
+
+def star(arcs):
+    return [0] * arcs
+
+
+def chain(arcs):
+    return list(range(arcs))
+
+
+def comb(arcs):
+    """A chain of the odd vertices; each even one is a child of the odd one before it."""
+    return [0] + [v - 2 | 1 for v in range(2, arcs + 1)]
+
+
+def all_groups(count):
+    return [words_of(j for j in range(count) if g >> j & 1) for g in range(1 << count)]
+
+
+def random_parent(dice, shape, arc):
+    if shape == "deep":
+        return dice.randrange(max(0, arc - 2), arc)
+    if shape == "wide":
+        return dice.randrange(min(arc, 3))
+    return dice.randrange(arc)
+
+
+def random_tree(dice, arcs):
+    shape = dice.choice(["any", "deep", "wide"])
+    most = dice.choice([1, 9, 9, 1000, MOST_COST])
+    parents = [random_parent(dice, shape, arc) for arc in range(1, arcs + 1)]
+    return parents, [dice.randint(0, most) for _ in range(arcs)]
+
+
+def random_group(dice, count):
+    share = dice.random()
+    return words_of(j for j in range(count) if dice.random() < share)
+
+
+def random_payers(dice, parents, costs):
+    """A proposal that passes: each arc is paid by one of its users."""
+    vertices = member_vertices(parents)
+    users = [[] for _ in costs]
+    for j, vertex in enumerate(vertices):
+        for arc in path(parents, vertex):
+            users[arc - 1].append(j)
+    proposal = [0] * len(vertices)
+    for cost, can_pay in zip(costs, users):
+        proposal[dice.choice(can_pay)] += cost
+    return proposal
+
+
+def random_proposal(dice, parents, costs):
+    """Mostly one that adds up: a few amounts go from one member to another."""
+    proposal = random_payers(dice, parents, costs)
+    most = dice.choice([1, 2, max(costs), max(costs), 2 * sum(costs), MOST_SHARE // 10])
+    for _ in range(dice.randrange(6)):
+        amount = dice.randint(0, most)
+        proposal[dice.randrange(len(proposal))] += amount
+        proposal[dice.randrange(len(proposal))] -= amount
+    if dice.randrange(8) == 0:
+        proposal[dice.randrange(len(proposal))] += dice.choice([-1, 1, most, -most])
+    return proposal
