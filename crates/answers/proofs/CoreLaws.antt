@@ -10,8 +10,7 @@ use Rattle.game.specs.Proposal.{share, minus}
 use Rattle.game.proofs.Integers.{less-le, less-parts}
 use Rattle.game.specs.Tree.{Tree, network, ofArc, hasChild}
 use Rattle.game.proofs.Excess.{MembersEnd}
-use Rattle.game.proofs.DeadEnds.{tree-ends, every-arc-used}
-use Rattle.game.proofs.Bools.{clash}
+use Rattle.game.proofs.DeadEnds.{tree-ends, unused-free}
 use Rattle.game.proofs.Bounds as Bounds
 use Rattle.game.proofs.Core.{core-to-bound, bound-to-need, need-to-core, core-nonneg}
 use Rattle.answers.specs.CoreLaws.{OtherUser, CoreStatement}
@@ -32,7 +31,7 @@ core-laws t e =
     record {
       bound-is-only-theirs = λ k a. Bounds.bound-is-only-theirs n k;
       need-at-most-bound = λ k a. Bounds.need-le-bound n (ok .rooted) k;
-      need-is-bound = λ k a why. Bounds.need-is-bound n (ok .rooted) (λ e i u. absurd (clash (every-arc-used n (ok .rooted) (tree-ends t) e i) u)) k (record { first = a .first; last = a .last }) (other k why);
+      need-is-bound = λ k a why. Bounds.need-is-bound n (ok .rooted) (unused-free n (ok .rooted) (tree-ends t)) k (record { first = a .first; last = a .last }) (other k why);
       core-by-bound = λ shares. (core-to-bound n shares, λ c. need-to-core n (ok .rooted) (members-end t) shares (bound-to-need n (ok .rooted) shares c));
       core-by-need = λ shares. (λ c. bound-to-need n (ok .rooted) shares (core-to-bound n shares c), need-to-core n (ok .rooted) (members-end t) shares);
       core-not-negative = λ shares c j h. not-negative (share shares j) (core-nonneg n (ok .rooted) (members-end t) shares c j h);

@@ -1,15 +1,15 @@
 -- Where the members are the dead ends every arc has a user, so the counted costs are the costs.
 use Prim.Native.Nat.{ℕ, zero, suc, _+_, _≤_}
-use mathlib.Core.Path.{_≡_, refl, ap, _∙_}
+use mathlib.Core.Path.{_≡_, refl, sym, ap, _∙_}
 use mathlib.Core.Bool.{true, false, not}
 use mathlib.Core.Logic.{_⊎_, inl, inr, ⊎-elim}
 use lib.ListN.{length}
 use native.Mathlib.Omega.{arith}
 use borrow.Author.Tests.{eqb-true}
 use lib.Dec.{eqb}
-use Rattle.game.specs.Network.{Network, used, everyone, atCounted, wholeCost, groupCost}
+use Rattle.game.specs.Network.{Network, used, everyone, counted, atCounted, wholeCost, groupCost}
 use Rattle.game.specs.Tree.{Tree, ofArc, hasChild, network}
-use Rattle.game.proofs.Bools.{both, and-both, pick-yes}
+use Rattle.game.proofs.Bools.{both, and-both, pick-yes, pick-no}
 use Rattle.game.proofs.Sums.{In, Some, some-is, sum-cong}
 use Rattle.game.proofs.Below.{Rooted, below-self, child-after}
 use Rattle.game.proofs.Groups.{used-of, used-child, everyone-cost}
@@ -50,9 +50,16 @@ module _ (n : Network) (rooted : Rooted n) (ends : Ends n) where
   pub every-arc-used : (k : ℕ) → In (n .arcs) k → used n everyone k ≡ true
   every-arc-used k i = used-within (n .arcs) k i (omega arith)
 
-  pub counted-whole : wholeCost (atCounted n) ≡ wholeCost n
+  counted-cost : (k : ℕ) → In (n .arcs) k → counted n k ≡ n .cost k
+  counted-cost k i = pick-yes (n .cost k) (every-arc-used k i)
+
+  counted-whole : wholeCost (atCounted n) ≡ wholeCost n
   unfolding wholeCost
-  counted-whole = sum-cong (n .arcs) (λ k i. pick-yes (n .cost k) (every-arc-used k i))
+  counted-whole = sum-cong (n .arcs) counted-cost
+
+  -- no cost of an arc that nobody uses is in the sum of all costs
+  pub unused-free : (k : ℕ) → In (n .arcs) k → used n everyone k ≡ false → n .cost k ≡ 0
+  unused-free k i u = sym (counted-cost k i) ∙ pick-no (n .cost k) u
 
   pub everyone-pays-whole : groupCost n everyone ≡ wholeCost n
   everyone-pays-whole = everyone-cost n ∙ counted-whole
