@@ -12,7 +12,7 @@ sys.path.insert(0, str(Path(__file__).resolve().parent / "script"))
 
 from rules import MOST_COST, WORDS, words_of
 from entries import answer, question
-from networks import T, W, chain
+from networks import T, U, W, chain
 from trees import group_bits, large_trees, limits, random_trees, refusal_order, small_networks
 from audits import (
     deep_audits,
@@ -23,6 +23,16 @@ from audits import (
     small_audits,
     ties,
     traps,
+)
+from levels import (
+    cap_limits,
+    cap_refusals,
+    large_costs,
+    level_ties,
+    random_levels,
+    several_short,
+    small_levels,
+    worst_levels,
 )
 from unreadable import UNREADABLE
 
@@ -52,6 +62,10 @@ STATED = [
     (("audit", *T, [-1, 13, 4]), beside_words("group 2 of 1", 2)),
     (("audit", *T, [6, 5, 5]), beside_words("group 1 of 1", 4)),
     (("audit", *W, [7, 7, 6]), beside_words("group 2 of 2", 3)),
+    (("level", *T, [100, 100, 100], 3), "split 3: 6,6,4"),
+    (("level", *T, [3, 9, 4], 3), "split 3: 3,9,4"),
+    (("level", *T, [3, 8, 100], 3), "refused 9 at 1 short 1: 9,9,9"),
+    (("level", *U, [3, 100], 2), "split 2: 3,4"),
 ]
 
 PARTS = [
@@ -69,9 +83,17 @@ PARTS = [
     full_audits,
     deep_audits,
     random_audits,
+    small_levels,
+    level_ties,
+    several_short,
+    cap_limits,
+    cap_refusals,
+    large_costs,
+    worst_levels,
+    random_levels,
 ]
 
-MOST_INPUT = 1 << 20
+MOST_INPUT = 1 << 21
 
 
 def write(path, lines):

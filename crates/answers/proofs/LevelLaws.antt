@@ -172,7 +172,7 @@ module _ (t : Tree) (ok : treeCheck t ≡ accepted) (caps : List ℕ) where
           reached .best (over-at (network t) shares) (admits shares fits),
         )))
 
-not-both : {members number place shortfall : ℕ} → split members ≡ refusal number place shortfall → ⊥
+pub not-both : {members number place shortfall : ℕ} → split members ≡ refusal number place shortfall → ⊥
 not-both e = let z : _≡_ {A = ℕ} 0 1 = cc in omega arith
 
 same-refusal : {m a b k c d : ℕ} → refusal m a b ≡ refusal k c d → (a ≡ c) × (b ≡ d)

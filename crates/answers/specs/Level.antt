@@ -1,8 +1,9 @@
 -- The level split under caps: its answer and the list that it writes.
-use Prim.Native.Nat.{ℕ, zero, suc, _-_}
-use mathlib.Core.Bool.{cond}
+use Prim.Native.Nat.{ℕ, zero, suc, _-_, _≤_}
+use mathlib.Core.Path.{_≡_}
+use mathlib.Core.Bool.{Bool, cond}
 use mathlib.Core.List.{List}
-use lib.ListN.{getD}
+use lib.ListN.{length, getD}
 use lib.Dec.{ltb}
 use Rattle.game.specs.Sum.{pick}
 use Rattle.game.specs.Network.{Network, sumBelow, need, number, memberCount}
@@ -16,6 +17,11 @@ pub data LevelAnswer : Type 0 where
   split : (members : ℕ) → LevelAnswer
   refusal : (number place shortfall : ℕ) → LevelAnswer
 
+-- one cap a member, none above the limit
+pub record Capped (members : ℕ) (caps : List ℕ) : Type 0 where
+  pub sized : length caps ≡ members
+  pub limited : (j : ℕ) → getD caps j 0 ≤ mostShare
+
 -- what the caps of an arc's users add up to
 abbrev pub capSum : Network → List ℕ → ℕ → ℕ
 capSum n caps = sumBelow n (λ v. pick (n .member v) (getD caps (number n v) 0))
@@ -26,8 +32,11 @@ shortArc n caps zero = 0
 shortArc n caps (suc k) = cond (ltb (capSum n caps (suc k)) (need n (suc k))) (suc k) (shortArc n caps k)
 
 -- 6 and 7 on caps
+abbrev pub outsideCap : ℕ → Bool
+outsideCap cap = ltb mostShare cap
+
 abbrev pub capsCheck : ℕ → List ℕ → Check
-capsCheck = memberListCheck (λ cap. ltb mostShare cap)
+capsCheck = memberListCheck outsideCap
 
 -- 6 and 7 on caps after the tree, then 8
 abbrev pub levelCheck : Tree → List ℕ → List ℕ → Check

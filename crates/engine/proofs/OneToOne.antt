@@ -5,10 +5,11 @@ use Rattle.answers.specs.Answer.{Answer, value, refusal, Check, accepted, refus
 use Rattle.answers.specs.Needs.{NeedsValue}
 use Rattle.answers.specs.GroupCost.{GroupCostValue}
 use Rattle.answers.specs.Audit.{Verdict, wrongTotal, objection, pass}
+use Rattle.answers.specs.Level.{LevelAnswer, split, refusal as notSplit}
 use Rattle.checks.specs.Checked.{checkOf}
 use Rattle.checks.specs.declared.Checked.{Checked}
 use Rattle.checks.specs.declared.Checked.the-variants.{Accepted, Refused as NotAccepted}
-use Rattle.engine.specs.Outcomes.{memberCountOf, needsOf, groupCostOf, auditOf}
+use Rattle.engine.specs.Outcomes.{memberCountOf, needsOf, groupCostOf, auditOf, levelOf}
 use Rattle.engine.specs.declared.members.MemberCount.{MemberCount}
 use Rattle.engine.specs.declared.members.MemberCount.the-variants.{Members, Refused as NoMembers}
 use Rattle.engine.specs.declared.needs.NeedsFound.{NeedsFound}
@@ -17,6 +18,8 @@ use Rattle.engine.specs.declared.group.GroupCost.{GroupCost}
 use Rattle.engine.specs.declared.group.GroupCost.the-variants.{Cost, Refused as NoCost}
 use Rattle.engine.specs.declared.verdict.AuditFound.{AuditFound}
 use Rattle.engine.specs.declared.verdict.AuditFound.the-variants.{WrongTotal, Objection, Pass, Refused as NoAudit}
+use Rattle.engine.specs.declared.split.LevelSplit.{LevelSplit}
+use Rattle.engine.specs.declared.split.LevelSplit.the-variants.{Split, Refused as NoSplit}
 
 read-back : {A B : Type 0} (of : A → B) (back : B → A) → ((a : A) → back (of a) ≡ a) → (a b : A) → of a ≡ of b → a ≡ b
 read-back of back is a b e = sym (is a) ∙ ap back e ∙ is b
@@ -79,3 +82,14 @@ audit-is (NoAudit r) = refl
 
 pub audit-one-to-one : (a b : AuditFound) → auditOf a ≡ auditOf b → a ≡ b
 audit-one-to-one = read-back auditOf audit-back audit-is
+
+abbrev level-back : LevelAnswer → LevelSplit
+level-back (split members) = Split members
+level-back (notSplit number place shortfall) = NoSplit number place shortfall
+
+level-is : (a : LevelSplit) → level-back (levelOf a) ≡ a
+level-is (Split members) = refl
+level-is (NoSplit number place shortfall) = refl
+
+pub level-one-to-one : (a b : LevelSplit) → levelOf a ≡ levelOf b → a ≡ b
+level-one-to-one = read-back levelOf level-back level-is

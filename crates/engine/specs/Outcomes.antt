@@ -4,6 +4,7 @@ use Rattle.answers.specs.Answer.{Answer, value, refusal}
 use Rattle.answers.specs.Needs.{NeedsValue}
 use Rattle.answers.specs.GroupCost.{GroupCostValue}
 use Rattle.answers.specs.Audit.{Verdict, wrongTotal, objection, pass}
+use Rattle.answers.specs.Level.{LevelAnswer, split, refusal as notSplit}
 use Rattle.engine.specs.declared.members.MemberCount.{MemberCount}
 use Rattle.engine.specs.declared.members.MemberCount.the-variants.{Members, Refused as NoMembers}
 use Rattle.engine.specs.declared.needs.NeedsFound.{NeedsFound}
@@ -12,6 +13,8 @@ use Rattle.engine.specs.declared.group.GroupCost.{GroupCost}
 use Rattle.engine.specs.declared.group.GroupCost.the-variants.{Cost, Refused as NoCost}
 use Rattle.engine.specs.declared.verdict.AuditFound.{AuditFound}
 use Rattle.engine.specs.declared.verdict.AuditFound.the-variants.{WrongTotal, Objection, Pass, Refused as NoAudit}
+use Rattle.engine.specs.declared.split.LevelSplit.{LevelSplit}
+use Rattle.engine.specs.declared.split.LevelSplit.the-variants.{Split, Refused as NoSplit}
 
 abbrev pub memberCountOf : MemberCount → Answer ℕ
 memberCountOf (Members n) = value n
@@ -30,3 +33,7 @@ auditOf (WrongTotal difference) = value (wrongTotal difference)
 auditOf (Objection amount size) = value (objection amount size)
 auditOf Pass = value pass
 auditOf (NoAudit r) = refusal (r .number) (r .place)
+
+abbrev pub levelOf : LevelSplit → LevelAnswer
+levelOf (Split members) = split members
+levelOf (NoSplit number place shortfall) = notSplit number place shortfall

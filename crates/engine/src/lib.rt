@@ -2,6 +2,7 @@
 mod group;
 mod members;
 mod needs;
+mod split;
 mod verdict;
 
 pub use checks::Checked;
@@ -9,12 +10,15 @@ pub use checks::Refusal;
 pub use checks::check_tree;
 pub use group::GroupCost;
 pub use group::group_cost;
+pub use level::check_caps;
 pub use members::MemberCount;
 pub use members::count_members;
 pub use members::list_members;
 pub use needs::NeedsFound;
 pub use needs::list_needs;
 pub use proposal::check_proposal;
+pub use split::LevelSplit;
+pub use split::split_level;
 pub use verdict::AuditFound;
 pub use verdict::Audited;
 pub use verdict::audit;

@@ -180,21 +180,27 @@ module _ (n : Network) (rooted : Rooted n) (caps : List ℕ) (amount : ℕ → �
   all-units k zero l i h s = s
   all-units k (suc t) l i h s = one-more k t i (omega arith) (units n caps k t l) (all-units k t l i (omega arith) s)
 
+  -- one arc more is finished
+  pub next-arc : (k : ℕ) (l : List ℕ) → suc k ≤ n .arcs → Stands n caps amount (suc k) 0 l → Stands n caps amount k 0 (units n caps (suc k) (amount (suc k)) l)
+  next-arc k l h s =
+      let done = all-units (suc k) (amount (suc k)) l (omega arith) (omega arith) s in
+      record { sized = done .sized; reached = finish n rooted (view n caps) amount (view-off n caps) enough k (view n (units n caps (suc k) (amount (suc k)) l)) h (done .reached) }
+
   all-arcs : (k : ℕ) (l : List ℕ) → k ≤ n .arcs → Stands n caps amount k 0 l → Stands n caps amount 0 0 (arcsDown n caps amount k l)
   unfolding arcsDown
   all-arcs zero l h s = s
-  all-arcs (suc k) l h s =
-      let done = all-units (suc k) (amount (suc k)) l (omega arith) (omega arith) s in
-      all-arcs k (units n caps (suc k) (amount (suc k)) l) (omega arith)
-      (record { sized = done .sized; reached = finish n rooted (view n caps) amount (view-off n caps) enough k (view n (units n caps (suc k) (amount (suc k)) l)) h (done .reached) })
+  all-arcs (suc k) l h s = all-arcs k (units n caps (suc k) (amount (suc k)) l) (omega arith) (next-arc k l h s)
 
-  pub level-stands : Stands n caps amount 0 0 (level n caps amount)
-  level-stands =
-      all-arcs (n .arcs) (replicate (memberCount n) 0) (omega arith)
-      (record {
+  -- before the first arc
+  pub stands-start : Stands n caps amount (n .arcs) 0 (replicate (memberCount n) 0)
+  stands-start =
+      record {
         sized = length-replicate {A = ℕ} (memberCount n) 0;
         reached =
             reached-same n (view n caps) amount (n .arcs) 0 (λ v. 0) (view n (replicate (memberCount n) 0))
             (λ v i. sym (ap (pick (n .member v)) (zeros (memberCount n) (number n v)) ∙ pick-zero (n .member v)))
             (start n rooted (view n caps) amount (view-off n caps) enough);
-      })
+      }
+
+  pub level-stands : Stands n caps amount 0 0 (level n caps amount)
+  level-stands = all-arcs (n .arcs) (replicate (memberCount n) 0) (omega arith) stands-start

@@ -128,15 +128,15 @@ module _ (n : Network) (rooted : Rooted n) (cap amount : ℕ → ℕ) (cap-off :
       done : lower n cap amount (suc k) ≤ sumBelow n x (suc k)
       done = omega (arith, r .given (suc k) (omega arith), lower-after (suc k) (omega arith), pick-yes (amount (suc k)) (below-self n rooted (suc k)))
 
+  -- what the arc's users have so far
+  pub so-far : (k t : ℕ) (x : ℕ → ℕ) → In (n .arcs) k → Reached n cap amount k t x → sumBelow n x k + amount k ≡ lower n cap amount k + t
+  so-far k t x i r = omega (arith, r .given k (omega arith), lower-after k i, pick-yes t (below-self n rooted k))
+
   -- at a turn of the rule
   module _ (k t : ℕ) (x : ℕ → ℕ) (i : In (n .arcs) k) (h : t < amount k) (r : Reached n cap amount k t x) where
-    -- what the arc's users have so far
-    so-far : sumBelow n x k + amount k ≡ lower n cap amount k + t
-    so-far = omega (arith, r .given k (omega arith), lower-after k i, pick-yes t (below-self n rooted k))
-
     -- some user is below its cap
     pub some-free : More n rooted x cap k
-    some-free = has-more n rooted x cap k i (omega (arith, so-far, caps-enough k i))
+    some-free = has-more n rooted x cap k i (omega (arith, so-far k t x i r, caps-enough k i))
 
     -- a user below its cap whose share is the smallest of such
     pub record Choice (c : ℕ) : Type 0 where
@@ -184,7 +184,7 @@ module _ (n : Network) (rooted : Rooted n) (cap amount : ℕ → ℕ) (cap-off :
         where
           -- someone has more in y, with more in y below every arc on the way there
           m : More n rooted x y k
-          m = has-more n rooted x y k i (omega (arith, so-far, a .enough i))
+          m = has-more n rooted x y k i (omega (arith, so-far k t x i r, a .enough i))
 
           j : ℕ
           j = m .at

@@ -24,3 +24,4 @@ pub mod Descent
 pub mod LevelRule
 pub mod LevelList
 pub mod Raise
+pub mod LevelRoom

@@ -20,7 +20,7 @@ use Rattle.game.proofs.Bools.{both, clash, and-both, and-first, and-sec
 use Rattle.game.proofs.Sums.{sum-cong, sum-add, sum-zero, sum-at}
 use Rattle.game.proofs.Smallest.{is-first}
 
-smaller-is : (a b : ℕ) → smaller a b ≡ a - (a - b)
+pub smaller-is : (a b : ℕ) → smaller a b ≡ a - (a - b)
 smaller-is a b =
     ⊎-elim
     (λ (e : ltb a b ≡ true). rw e (omega (arith, ltb-true a b e)))

@@ -1,6 +1,6 @@
 // The excess of each arc: what the positive shares of its users exceed its cost by, after the arcs below it.
 ghost use mathlib.Core.Path.{_≡_};
-ghost use Prim.Native.Nat.{_-_, _<_};
+ghost use Prim.Native.Nat.{_<_};
 ghost use mathlib.Core.Bool.{not, false};
 ghost use lib.ListN.{length};
 ghost use Rattle.game.specs.Sum.{pick};
@@ -29,13 +29,6 @@ fn share_here(has_child: bool, proposal: &[i64], j: usize) -> u64
     proposal::plus(proposal[j])
 }
 
-// What is there less the cost, 0 where the cost is greater.
-fn above_cost(amount: u64, cost: u64) -> u64
-    ensures { λ r. ⌜ r ≡ amount - cost ⌝ }
-{
-    if amount < cost { 0 } else { amount - cost }
-}
-
 pub fn find_excesses(parents: &[u16], costs: &[u32], proposal: &[i64]) -> Excesses
     requires { ⌜ auditCheck (treeOf (now parents) (now costs)) (now proposal) ≡ accepted ⌝ }
     ensures { λ r. ⌜ Exceeding (treeOf (now (parents .entry)) (now (costs .entry))) (now (proposal .entry)) (r .total) (r .of) (r .inner) ⌝ }
@@ -49,7 +42,7 @@ pub fn find_excesses(parents: &[u16], costs: &[u32], proposal: &[i64]) -> Excess
         k -= 1;
         j -= tree::one_if_member(has_child[k]);
         let amount = share_here(has_child[k], proposal, j) + below[k];
-        let x = above_cost(amount, costs[k - 1] as u64);
+        let x = numbers::above(amount, costs[k - 1] as u64);
         of[k] = x;
         let p = parents[k - 1] as usize;
         has_child[p] = true;

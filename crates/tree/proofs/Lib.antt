@@ -1,5 +1,7 @@
 pub mod Carry
 pub mod Bounds
 pub mod MemberPass
-pub mod NeedPass
+pub mod SumPass
+pub mod Filling
+pub mod CapPass
 pub mod GroupPass

@@ -1,4 +1,5 @@
-// The needs of all arcs in one pass: an arc's need is carried to its parent.
+// The needs of all arcs: their costs, added up from below.
+use crate::sums::add_up;
 ghost use mathlib.Core.Path.{_≡_};
 ghost use lib.ListN.{length};
 ghost use Rattle.game.specs.Sum.{list};
@@ -7,6 +8,18 @@ ghost use Rattle.game.specs.Tree.{treeOf, network};
 ghost use Rattle.answers.specs.Answer.{accepted};
 ghost use Rattle.answers.specs.Checks.{treeCheck};
 
+// Copies the costs.
+fn widen(costs: &[u32], out: &mut [u64])
+    requires { ⌜ length (now out) ≡ length (now costs) ⌝ }
+    ensures { λ _. ⌜ now (out .exit) ≡ now (costs .entry) ⌝ }
+{
+    let mut i = 0;
+    while i < costs.len() {
+        out[i] = costs[i] as u64;
+        i += 1;
+    }
+}
+
 // Writes the need of each arc; answers the whole cost.
 pub fn write_needs(parents: &[u16], costs: &[u32], out: &mut [u64]) -> u64
     requires { ⌜ treeCheck (treeOf (now parents) (now costs)) ≡ accepted ⌝ }
@@ -14,14 +27,6 @@ pub fn write_needs(parents: &[u16], costs: &[u32], out: &mut [u64]) -> u64
     ensures { λ r. ⌜ r ≡ wholeCost (network (treeOf (now (parents .entry)) (now (costs .entry)))) ⌝ }
     ensures { λ _. ⌜ now (out .exit) ≡ list (length (now (parents .entry))) (need (network (treeOf (now (parents .entry)) (now (costs .entry))))) ⌝ }
 {
-    let mut below = [0u64; 1024];
-    let mut k = parents.len() + 1;
-    while k > 1 {
-        k -= 1;
-        let need = below[k] + costs[k - 1] as u64;
-        out[k - 1] = need;
-        let p = parents[k - 1] as usize;
-        below[p] = below[p] + need;
-    }
-    below[0]
+    widen(costs, out);
+    add_up(parents, out)
 }

@@ -4,6 +4,7 @@ from rules import (
     WORDS,
     arc_needs,
     best_group,
+    check_caps,
     check_group,
     check_output,
     check_proposal,
@@ -13,6 +14,7 @@ from rules import (
     ones,
     words_of,
 )
+from level import level_split
 
 UNTOUCHED = 9
 
@@ -67,6 +69,20 @@ def answer_shares(count, proposal):
     return "accepted"
 
 
+def answer_level(parents, costs, caps, out):
+    check_tree(parents, costs)
+    count = len(member_vertices(parents))
+    check_caps(count, caps)
+    check_output(out, count)
+    out[:] = level_split(parents, costs, caps)
+    return f"split {count}"
+
+
+def answer_caps(count, caps):
+    check_caps(count, caps)
+    return "accepted"
+
+
 ENTRIES = {
     "check": answer_check,
     "count": answer_count,
@@ -75,10 +91,12 @@ ENTRIES = {
     "group": answer_group,
     "audit": answer_audit,
     "shares": answer_shares,
+    "level": answer_level,
+    "caps": answer_caps,
 }
 
 # the commands whose last field is the length of an output list
-WRITING = {"members", "needs"}
+WRITING = {"members", "needs", "level"}
 
 
 def shown(field):
@@ -99,6 +117,8 @@ def answer(case):
         line = ENTRIES[command](*fields, *beside)
     except Refusal as refusal:
         line = str(refusal)
+        if command == "level":
+            line += f" short {refusal.shortfall}"
     return ": ".join([line, *map(shown, beside)])
 
 

@@ -1,5 +1,5 @@
-"""Networks, groups and proposals that the cases use."""
-from rules import MOST_COST, MOST_SHARE, member_vertices, path, words_of
+"""Networks, groups, proposals and caps that the cases use."""
+from rules import MOST_CAP, MOST_COST, MOST_SHARE, arc_users, member_vertices, words_of
 
 T = [0, 1, 1, 0], [6, 1, 5, 4]
 U = [0, 1, 1], [7, 0, 0]
@@ -17,6 +17,12 @@ def chain(arcs):
 def comb(arcs):
     """A chain of the odd vertices; each even one is a child of the odd one before it."""
     return [0] + [v - 2 | 1 for v in range(2, arcs + 1)]
+
+
+def broom(arcs):
+    """A chain of half the arcs; all other vertices hang under its end."""
+    handle = (arcs + 1) // 2
+    return chain(handle) + [handle] * (arcs - handle)
 
 
 def all_groups(count):
@@ -45,13 +51,8 @@ def random_group(dice, count):
 
 def random_payers(dice, parents, costs):
     """A proposal that passes: each arc is paid by one of its users."""
-    vertices = member_vertices(parents)
-    users = [[] for _ in costs]
-    for j, vertex in enumerate(vertices):
-        for arc in path(parents, vertex):
-            users[arc - 1].append(j)
-    proposal = [0] * len(vertices)
-    for cost, can_pay in zip(costs, users):
+    proposal = [0] * len(member_vertices(parents))
+    for cost, can_pay in zip(costs, arc_users(parents)):
         proposal[dice.choice(can_pay)] += cost
     return proposal
 
@@ -67,3 +68,20 @@ def random_proposal(dice, parents, costs):
     if dice.randrange(8) == 0:
         proposal[dice.randrange(len(proposal))] += dice.choice([-1, 1, most, -most])
     return proposal
+
+
+def random_caps(dice, parents, costs):
+    """From caps that nobody reaches to caps that just suffice; some do not."""
+    caps = random_payers(dice, parents, costs)
+    slack = dice.choice([0, 1, 3, max(costs), sum(costs)])
+    for j, cap in enumerate(caps):
+        caps[j] = dice.choice([cap, cap + dice.randint(0, slack), cap + slack])
+    change = dice.choice(["none", "none", "none", "one unit", "nothing", "most"])
+    j = dice.randrange(len(caps))
+    if change == "one unit":
+        caps[j] = max(0, caps[j] - 1)
+    if change == "nothing":
+        caps[j] = 0
+    if change == "most":
+        caps[j] = MOST_CAP
+    return caps

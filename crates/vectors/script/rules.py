@@ -4,12 +4,14 @@ from itertools import combinations
 MOST_ARCS = 1023
 MOST_COST = 1_000_000_000
 MOST_SHARE = 2_000_000_000_000
+MOST_CAP = 2_000_000_000_000
 WORDS, WORD_BITS = 16, 64
 
 
 class Refusal(Exception):
-    def __init__(self, number, place=0):
+    def __init__(self, number, place=0, shortfall=0):
         super().__init__(f"refused {number} at {place}")
+        self.shortfall = shortfall
 
 
 def check_tree(parents, costs):
@@ -32,13 +34,21 @@ def check_group(words, count):
             raise Refusal(5, bit)
 
 
-def check_proposal(count, proposal):
-    """6, then 7 at the lowest member whose share is outside its range."""
-    if len(proposal) != count:
+def check_entries(count, entries, least, most):
+    """6, then 7 at the lowest member whose entry is outside its range."""
+    if len(entries) != count:
         raise Refusal(6)
-    for j, share in enumerate(proposal):
-        if not -MOST_SHARE <= share <= MOST_SHARE:
+    for j, entry in enumerate(entries):
+        if not least <= entry <= most:
             raise Refusal(7, j)
+
+
+def check_proposal(count, proposal):
+    check_entries(count, proposal, -MOST_SHARE, MOST_SHARE)
+
+
+def check_caps(count, caps):
+    check_entries(count, caps, 0, MOST_CAP)
 
 
 def check_output(out, length):
@@ -60,6 +70,15 @@ def path(parents, vertex):
         arcs.append(vertex)
         vertex = parents[vertex - 1]
     return arcs
+
+
+def arc_users(parents):
+    """For each arc the members at or below the vertex that it enters, in rising order."""
+    users = [[] for _ in parents]
+    for j, vertex in enumerate(member_vertices(parents)):
+        for arc in path(parents, vertex):
+            users[arc - 1].append(j)
+    return users
 
 
 def ones(words):

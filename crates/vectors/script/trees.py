@@ -6,7 +6,7 @@ from networks import T, U, W, all_groups, chain, random_group, random_proposal, 
 
 
 def every_entry(parents, costs, words=words_of([0])):
-    """A case of each command, with output lists and a proposal of the right length."""
+    """A case of each command, with output lists, a proposal and caps of the right length."""
     count = len(member_vertices(parents))
     return [
         ("check", parents, costs),
@@ -16,6 +16,8 @@ def every_entry(parents, costs, words=words_of([0])):
         ("group", parents, costs, words),
         ("audit", parents, costs, [0] * count),
         ("shares", count, [0] * count),
+        ("level", parents, costs, [sum(costs)] * count, count),
+        ("caps", count, [0] * count),
     ]
 
 

@@ -1,4 +1,6 @@
-// One case: a command, a tree, and for some commands one field more; or a number of members and a proposal.
+// One case: a command, a tree, and for some commands one field or two more; or a number of members and a list with an entry each.
+use crate::command;
+use crate::command::Command;
 use crate::print;
 use cases::field;
 use cases::list;
@@ -11,44 +13,6 @@ ghost use Rattle.cases.specs.Lists.{MOST};
 
 // The words of a group.
 const WORDS: usize = 16;
-
-enum Command {
-    Check,
-    Count,
-    Members,
-    Needs,
-    Group,
-    Audit,
-    Shares,
-    Unknown,
-}
-
-fn command_named(name: &[u8]) -> Command {
-    match field::find(b"check count members needs group audit shares", 7, name) {
-        0 => Command::Check,
-        1 => Command::Count,
-        2 => Command::Members,
-        3 => Command::Needs,
-        4 => Command::Group,
-        5 => Command::Audit,
-        6 => Command::Shares,
-        _ => Command::Unknown,
-    }
-}
-
-// How many fields a command's line has; none is right for an unknown command.
-fn fields(c: Command) -> usize {
-    match c {
-        Command::Check => 3,
-        Command::Count => 3,
-        Command::Members => 4,
-        Command::Needs => 4,
-        Command::Group => 4,
-        Command::Audit => 4,
-        Command::Shares => 3,
-        Command::Unknown => 0,
-    }
-}
 
 // The list is printed after a refusal too, which leaves it as it came.
 fn list_members(parents: &[u16], costs: &[u32], out: &mut [u16])
@@ -105,14 +69,39 @@ fn audit(parents: &[u16], costs: &[u32], shares: &[u8]) {
     print::audited(engine::audit(parents, costs, &proposal[0..n]));
 }
 
-fn on_tree(c: Command, parents: &[u16], costs: &[u32], last: &[u8]) {
+// As list_members.
+fn split_level(parents: &[u16], costs: &[u32], caps: &[u64], out: &mut [u64]) {
+    print::level_split(engine::split_level(parents, costs, caps, out));
+    cases::print::list(out);
+}
+
+// As members; the field before the length has the caps.
+fn level(parents: &[u16], costs: &[u32], entries: &[u8], length: &[u8]) {
+    let mut caps = [0u64; MOST];
+    let found = list::read(entries, u64::MAX, &mut caps);
+    let wanted = number::up_to(length, MOST as u64);
+    if !found.readable {
+        return print::bad_case();
+    }
+    if !wanted.readable {
+        return print::bad_case();
+    }
+    let k = found.count;
+    let n = wanted.value as usize;
+    let mut out = [9u64; MOST];
+    split_level(parents, costs, &caps[0..k], &mut out[0..n]);
+}
+
+// A field that the line does not have comes as no bytes.
+fn on_tree(c: Command, parents: &[u16], costs: &[u32], third: &[u8], fourth: &[u8]) {
     match c {
         Command::Check => print::checked(engine::check_tree(parents, costs)),
         Command::Count => print::member_count(engine::count_members(parents, costs)),
-        Command::Members => members(parents, costs, last),
-        Command::Needs => needs(parents, costs, last),
-        Command::Group => group(parents, costs, last),
-        Command::Audit => audit(parents, costs, last),
+        Command::Members => members(parents, costs, third),
+        Command::Needs => needs(parents, costs, third),
+        Command::Group => group(parents, costs, third),
+        Command::Audit => audit(parents, costs, third),
+        Command::Level => level(parents, costs, third, fourth),
         _ => print::bad_case(),
     }
 }
@@ -125,7 +114,13 @@ fn with_costs(c: Command, line: &[u8], parents: &[u16]) {
         return print::bad_case();
     }
     let n = found.count;
-    on_tree(c, parents, &costs[0..n], field::nth(line, 3));
+    on_tree(
+        c,
+        parents,
+        &costs[0..n],
+        field::nth(line, 3),
+        field::nth(line, 4),
+    );
 }
 
 // Field 1 has the parents.
@@ -154,13 +149,29 @@ fn shares(line: &[u8]) {
     print::checked(engine::check_proposal(members.value as usize, &proposal[0..n]));
 }
 
+// As shares.
+fn caps(line: &[u8]) {
+    let members = number::up_to(field::nth(line, 1), MOST as u64);
+    let mut caps = [0u64; MOST];
+    let found = list::read(field::nth(line, 2), u64::MAX, &mut caps);
+    if !members.readable {
+        return print::bad_case();
+    }
+    if !found.readable {
+        return print::bad_case();
+    }
+    let n = found.count;
+    print::checked(engine::check_caps(members.value as usize, &caps[0..n]));
+}
+
 fn answer(line: &[u8]) {
-    let c = command_named(field::nth(line, 0));
-    if field::has(line, fields(c)) {
+    let c = command::named(field::nth(line, 0));
+    if field::has(line, command::fields(c)) {
         return print::bad_case();
     }
     match c {
         Command::Shares => shares(line),
+        Command::Caps => caps(line),
         _ => with_tree(c, line),
     }
 }

@@ -1,16 +1,17 @@
 // Runs the engine's entries on the cases of standard input, one a line, and prints a line each.
 mod case;
+mod command;
 mod print;
 
 use libc::STDIN_FILENO;
 ghost use mathlib.Core.Path.{_≡_};
 ghost use lib.ListN.{length};
 
-// Room for the input, 1 MiB of zeros.
-fn room() -> [u8; 1048576]
-    ensures { λ r. ⌜ 1048576 ≡ length r ⌝ }
+// Room for the input, 2 MiB of zeros.
+fn room() -> [u8; 2097152]
+    ensures { λ r. ⌜ 2097152 ≡ length r ⌝ }
 {
-    [0; 1048576]
+    [0; 2097152]
 }
 
 fn run_all(input: &[u8]) {

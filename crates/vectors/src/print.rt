@@ -7,6 +7,7 @@ use engine::AuditFound;
 use engine::Audited;
 use engine::Checked;
 use engine::GroupCost;
+use engine::LevelSplit;
 use engine::MemberCount;
 use engine::NeedsFound;
 use engine::Refusal;
@@ -72,4 +73,18 @@ pub fn audited(a: Audited) {
     let group = a.group;
     audit_found(answer);
     list(&group);
+}
+
+pub fn level_split(s: LevelSplit) {
+    match s {
+        LevelSplit::Split(n) => labelled(b"split ", n as u64),
+        LevelSplit::Refused {
+            number,
+            place,
+            shortfall,
+        } => {
+            refusal(Refusal { number, place });
+            labelled(b" short ", shortfall);
+        }
+    }
 }

@@ -47,20 +47,20 @@ add-amount c =
       passing-fits _ _ (at .inv .0) _ (at .k - 1 - 1) (omega arith) (omega arith) (at .inv .4) _ _ (c .before .one-if-member .ensures) (c .share-here .ensures),
     )
 
-shared-slice-read-above-cost : tie.Need-shared-slice-read-above-cost Inv-loop μ-loop
-shared-slice-read-above-cost c =
+shared-slice-read-above : tie.Need-shared-slice-read-above Inv-loop μ-loop
+shared-slice-read-above c =
     omega (arith, c .before .before .before .before .loop .inv .2, c .before .before .before .loop-test .taken, tree-ok _ _ (c .before .before .before .before .loop .inv .0) .same)
 
-cast-above-cost : tie.Need-cast-above-cost Inv-loop μ-loop
-cast-above-cost c = omega (arith, c .shared-slice-known3 .given (c .before .before .before .before .loop .k - 1 - 1))
+cast-above : tie.Need-cast-above Inv-loop μ-loop
+cast-above c = omega (arith, c .shared-slice-known3 .given (c .before .before .before .before .loop .k - 1 - 1))
 
 -- what the turn's arc exceeds by
-excess-here : (c : tie.After-above-cost Inv-loop μ-loop)
-    → c .above-cost .result ≡ excess (treeOf (now (c .before .before .before .before .before .before .before .before .args .parents)) (now (c .before .before .before .before .before .before .before .before .args .costs))) (now (c .before .before .before .before .before .before .before .before .args .proposal)) (c .before .before .before .before .before .loop .k - 1)
+excess-here : (c : tie.After-above Inv-loop μ-loop)
+    → c .above .result ≡ excess (treeOf (now (c .before .before .before .before .before .before .before .before .args .parents)) (now (c .before .before .before .before .before .before .before .before .args .costs))) (now (c .before .before .before .before .before .before .before .before .args .proposal)) (c .before .before .before .before .before .loop .k - 1)
 excess-here c =
     let at = c .before .before .before .before .before .loop in
     passing-excess _ _ (at .inv .0) _ (at .k - 1 - 1) (omega arith) (omega arith) (at .inv .4) _ _ (c .before .before .before .one-if-member .ensures) (c .before .before .share-here .ensures) _
-    (c .above-cost .ensures)
+    (c .above .ensures)
 
 cast-p : tie.Need-cast-p Inv-loop μ-loop
 cast-p c = omega (arith, parent-here (c .before .before .before .before .before))
@@ -120,8 +120,8 @@ find-excesses-spec =
     add-amount
     (λ c. search needs)
     (λ c. search needs)
-    shared-slice-read-above-cost
-    cast-above-cost
+    shared-slice-read-above
+    cast-above
     (λ c κs. search needs)
     (λ c. search needs)
     (λ c. search needs)

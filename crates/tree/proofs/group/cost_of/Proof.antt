@@ -10,13 +10,6 @@ use Rattle.answers.proofs.Accepted.{Accepted, tree-accepted}
 use Rattle.tree.proofs.GroupPass.{Costing, inUse, costing-start, costing-room, costing-number, costing-used, costing-fits, costing-on, costing-end}
 use Rattle.tree.proofs.group.cost_of.Statement.{statement}
 use Rattle.tree.proofs.group.cost_of.Tie as tie
-use Rattle.tree.proofs.group.cost_of.Reads as reads
-use Rattle.tree.proofs.group.cost_of.Lts as lts
-use Rattle.bits.proofs.has.Reads as has-reads
-use Rattle.tree.proofs.group.cost_if.Reads as cost-if-reads
-use Rattle.tree.proofs.group.either.Reads as either-reads
-use Rattle.tree.proofs.group.used_here.Reads as used-here-reads
-use Rattle.tree.proofs.members.one_if_member.Reads as one-if-member-reads
 
 abbrev Inv-loop : tie.InvT-loop
 Inv-loop parents costs words members has-child₀ used₀ j₀ cost₀ k₀ has-child used j cost k =

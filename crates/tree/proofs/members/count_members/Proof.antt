@@ -8,9 +8,6 @@ use Rattle.tree.specs.Passes.{Sound}
 use Rattle.tree.proofs.MemberPass.{Counting, counting-start, counting-on, counting-end}
 use Rattle.tree.proofs.members.count_members.Statement.{statement}
 use Rattle.tree.proofs.members.count_members.Tie as tie
-use Rattle.tree.proofs.members.count_members.Reads as reads
-use Rattle.tree.proofs.members.count_members.Lts as lts
-use Rattle.tree.proofs.members.one_if_member.Reads as one-if-member-reads
 
 abbrev Inv-loop : tie.InvT-loop
 Inv-loop parents has-child₀ n₀ k₀ has-child n k =

@@ -7,9 +7,6 @@ use Rattle.tree.specs.Passes.{Sound}
 use Rattle.tree.proofs.MemberPass.{Listing, listing-start, listing-room, listing-on, listing-end}
 use Rattle.tree.proofs.members.write_members.Statement.{statement}
 use Rattle.tree.proofs.members.write_members.Tie as tie
-use Rattle.tree.proofs.members.write_members.Reads as reads
-use Rattle.tree.proofs.members.write_members.Lts as lts
-use Rattle.tree.proofs.members.place_member.Reads as place-member-reads
 
 abbrev Inv-loop : tie.InvT-loop
 Inv-loop parents out₀ has-child₀ j₀ k₀ out has-child j k =

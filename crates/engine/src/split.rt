@@ -1,0 +1,96 @@
+// The level split under caps.
+use checks::Checked;
+use checks::Refusal;
+use level::CapsFound;
+ghost use mathlib.Core.Path.{_≡_};
+ghost use lib.ListN.{length};
+ghost use Rattle.game.specs.Network.{memberCount};
+ghost use Rattle.game.specs.Tree.{treeOf, network, ofArc};
+ghost use Rattle.game.specs.Level.{level};
+ghost use Rattle.answers.specs.Answer.{accepted};
+ghost use Rattle.answers.specs.Checks.{treeCheck};
+ghost use Rattle.answers.specs.Level.{refusal, capsCheck, shortArc, splitOr9, listAfter, levelAnswer, levelList};
+ghost use Rattle.level.specs.Found.{answerOf};
+ghost use Rattle.engine.specs.Outcomes.{levelOf};
+
+pub enum LevelSplit {
+    // The number of members.
+    Split(usize),
+    // The shortfall is 0 except with refusal 9.
+    Refused {
+        number: u32,
+        place: usize,
+        shortfall: u64,
+    },
+}
+
+fn refused(r: Refusal) -> LevelSplit
+    ensures { λ a. ⌜ levelOf a ≡ refusal (r .number) (r .place) 0 ⌝ }
+{
+    LevelSplit::Refused {
+        number: r.number,
+        place: r.place,
+        shortfall: 0,
+    }
+}
+
+// The number of members, or 9.
+fn answer(members: usize, found: CapsFound) -> LevelSplit
+    ensures { λ a. ⌜ levelOf a ≡ answerOf members «found» ⌝ }
+{
+    match found {
+        CapsFound::Enough => LevelSplit::Split(members),
+        CapsFound::Short { arc, shortfall } => LevelSplit::Refused {
+            number: 9,
+            place: arc,
+            shortfall,
+        },
+    }
+}
+
+// The lists are accepted; `vertices` is room for one entry a member.
+fn split_accepted(
+    parents: &[u16],
+    costs: &[u32],
+    caps: &[u64],
+    vertices: &mut [u16],
+    out: &mut [u64],
+) -> LevelSplit
+    requires { ⌜ treeCheck (treeOf (now parents) (now costs)) ≡ accepted ⌝ }
+    requires { ⌜ capsCheck (memberCount (network (treeOf (now parents) (now costs)))) (now caps) ≡ accepted ⌝ }
+    requires { ⌜ length (now vertices) ≡ memberCount (network (treeOf (now parents) (now costs))) ⌝ }
+    requires { ⌜ length (now out) ≡ memberCount (network (treeOf (now parents) (now costs))) ⌝ }
+    ensures { λ r. ⌜ levelOf r ≡ splitOr9 (network (treeOf (now (parents .entry)) (now (costs .entry)))) (now (caps .entry)) (shortArc (network (treeOf (now (parents .entry)) (now (costs .entry)))) (now (caps .entry)) (length (now (parents .entry)))) ⌝ }
+    ensures { λ r. ⌜ now (out .exit) ≡ listAfter (levelOf r) (now (out .entry)) (level (network (treeOf (now (parents .entry)) (now (costs .entry)))) (now (caps .entry)) (ofArc (now (costs .entry)))) ⌝ }
+{
+    tree::write_members(parents, vertices);
+    let members = vertices.len();
+    let found = level::find_short(parents, costs, vertices, caps);
+    let CapsFound::Enough = found else {
+        return answer(members, found);
+    };
+    level::split_arcs(parents, costs, vertices, caps, out);
+    LevelSplit::Split(members)
+}
+
+// Writes one share a member. 1 to 4, 6 and 7 on caps, 8, then 9.
+pub fn split_level(parents: &[u16], costs: &[u32], caps: &[u64], out: &mut [u64]) -> LevelSplit
+    ensures { λ r. ⌜ levelOf r ≡ levelAnswer (treeOf (now (parents .entry)) (now (costs .entry))) (now (caps .entry)) (now (out .entry)) ⌝ }
+    ensures { λ _. ⌜ now (out .exit) ≡ levelList (treeOf (now (parents .entry)) (now (costs .entry))) (now (caps .entry)) (now (out .entry)) ⌝ }
+{
+    let tree = checks::check_tree(parents, costs);
+    let Checked::Accepted = tree else {
+        return refused(checks::refusal_of(tree));
+    };
+    let members = tree::count_members(parents);
+    let limits = level::check_caps(members, caps);
+    let Checked::Accepted = limits else {
+        return refused(checks::refusal_of(limits));
+    };
+    let output = checks::check_output(out.len(), members);
+    let Checked::Accepted = output else {
+        return refused(checks::refusal_of(output));
+    };
+    let mut vertices = [0u16; 1023];
+    split_accepted(parents, costs, caps, &mut vertices[0..members], out)
+}

@@ -1,0 +1,5 @@
+pub mod Raising
+pub mod Bulk
+pub mod Turns
+pub mod Bisection
+pub mod Arc

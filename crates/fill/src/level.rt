@@ -1,0 +1,50 @@
+// The greatest level that an amount is enough for, by bisection.
+use crate::part_of;
+ghost use mathlib.Core.Path.{_≡_};
+ghost use Prim.Native.Nat.{_≤_};
+ghost use mathlib.Core.Bool.{cond};
+ghost use lib.Dec.{ltb};
+ghost use Rattle.answers.specs.Checks.{mostShare};
+ghost use Rattle.fill.specs.Fill.{filled, Numbers, Highest};
+
+// The greatest cap, which is the greatest level.
+const MOST_LEVEL: u64 = 2_000_000_000_000;
+
+// What the users take together to reach a level.
+pub fn fill_to(users: &[u16], caps: &[u64], shares: &[u64], level: u64) -> u64
+    requires { ⌜ Numbers (now users) (now caps) (now shares) ⌝ }
+    requires { ⌜ level ≤ mostShare ⌝ }
+    ensures { λ r. ⌜ r ≡ filled (now (users .entry)) (now (caps .entry)) (now (shares .entry)) level ⌝ }
+{
+    let mut sum: u64 = 0;
+    let mut i = 0;
+    while i < users.len() {
+        let u = users[i] as usize;
+        sum += part_of(caps[u], shares[u], level);
+        i += 1;
+    }
+    sum
+}
+
+// One of two numbers, by whether more is taken than there is.
+fn by_fill(taken: u64, amount: u64, over: u64, within: u64) -> u64
+    ensures { λ r. ⌜ r ≡ cond (ltb amount taken) over within ⌝ }
+{
+    if amount < taken { over } else { within }
+}
+
+// The amount is enough for `low`; it is not enough for `high`, or `high` is above the limit.
+pub fn find_level(users: &[u16], caps: &[u64], shares: &[u64], amount: u64) -> u64
+    requires { ⌜ Numbers (now users) (now caps) (now shares) ⌝ }
+    ensures { λ r. ⌜ Highest (now (users .entry)) (now (caps .entry)) (now (shares .entry)) amount r ⌝ }
+{
+    let mut low: u64 = 0;
+    let mut high: u64 = MOST_LEVEL + 1;
+    while 1 < high - low {
+        let middle = low + (high - low) / 2;
+        let taken = fill_to(users, caps, shares, middle);
+        low = by_fill(taken, amount, low, middle);
+        high = by_fill(taken, amount, middle, high);
+    }
+    low
+}

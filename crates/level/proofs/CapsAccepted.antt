@@ -1,0 +1,15 @@
+-- What it means that the caps are accepted.
+use Prim.Native.Nat.{ℕ}
+use mathlib.Core.Path.{_≡_, refl}
+use mathlib.Core.List.{List}
+use borrow.Author.Tests.{ltb-false}
+use lib.ListN.{getD}
+use Rattle.answers.specs.Answer.{accepted}
+use Rattle.answers.specs.Checks.{mostShare}
+use Rattle.answers.specs.Level.{Capped, outsideCap, capsCheck}
+use Rattle.checks.proofs.Range.{list-accepted}
+
+pub caps-accepted : (members : ℕ) (caps : List ℕ) → capsCheck members caps ≡ accepted → Capped members caps
+caps-accepted members caps e =
+    let ok = list-accepted outsideCap 0 members caps refl e in
+    record { sized = ok .same; limited = λ j. ltb-false mostShare (getD caps j 0) (ok .inside j) }

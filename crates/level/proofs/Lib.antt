@@ -1,0 +1,4 @@
+pub mod Shortage
+pub mod Splitting
+pub mod CapsAccepted
+pub mod Lent

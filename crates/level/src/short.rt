@@ -1,0 +1,74 @@
+// Whether the caps of every arc's users add up to the arc's need.
+ghost use mathlib.Core.Path.{_≡_};
+ghost use Prim.Native.Nat.{ℕ};
+ghost use mathlib.Core.List.{[]};
+ghost use lib.ListN.{length};
+ghost use Rattle.game.specs.Network.{members, memberCount};
+ghost use Rattle.game.specs.Tree.{treeOf, network};
+ghost use Rattle.answers.specs.Answer.{accepted};
+ghost use Rattle.answers.specs.Checks.{treeCheck};
+ghost use Rattle.answers.specs.Level.{Capped, shortArc, splitOr9};
+ghost use Rattle.level.specs.Found.{answerOf, shortFrom};
+
+pub enum CapsFound {
+    Enough,
+    // The first arc from the last down whose users' caps are short of its need.
+    Short { arc: usize, shortfall: u64 },
+}
+
+// The arcs from the last down, by their needs and cap sums.
+fn first_short(needs: &[u64], sums: &[u64]) -> CapsFound
+    requires { ⌜ length (now sums) ≡ length (now needs) ⌝ }
+    ensures { λ r. ⌜ ((members : ℕ) → answerOf members r ≡ shortFrom members (now (needs .entry)) (now (sums .entry)) (length (now (needs .entry)))) ⌝ }
+{
+    let mut k = needs.len();
+    while 0 < k {
+        let shortfall = numbers::above(needs[k - 1], sums[k - 1]);
+        if 0 < shortfall {
+            return CapsFound::Short { arc: k, shortfall };
+        }
+        k -= 1;
+    }
+    CapsFound::Enough
+}
+
+// The two lists are room for the needs and the cap sums.
+fn compare(
+    parents: &[u16],
+    costs: &[u32],
+    vertices: &[u16],
+    caps: &[u64],
+    needs: &mut [u64],
+    sums: &mut [u64],
+) -> CapsFound
+    requires { ⌜ treeCheck (treeOf (now parents) (now costs)) ≡ accepted ⌝ }
+    requires { ⌜ now vertices ≡ members (network (treeOf (now parents) [])) ⌝ }
+    requires { ⌜ Capped (length (now vertices)) (now caps) ⌝ }
+    requires { ⌜ length (now needs) ≡ length (now parents) ⌝ }
+    requires { ⌜ length (now sums) ≡ length (now parents) ⌝ }
+    ensures { λ r. ⌜ answerOf (memberCount (network (treeOf (now (parents .entry)) (now (costs .entry))))) r ≡ splitOr9 (network (treeOf (now (parents .entry)) (now (costs .entry)))) (now (caps .entry)) (shortArc (network (treeOf (now (parents .entry)) (now (costs .entry)))) (now (caps .entry)) (length (now (parents .entry)))) ⌝ }
+{
+    tree::write_needs(parents, costs, needs);
+    tree::write_cap_sums(parents, vertices, caps, sums);
+    first_short(needs, sums)
+}
+
+// The needs and the cap sums of all arcs, then the arcs from the last down.
+pub fn find_short(parents: &[u16], costs: &[u32], vertices: &[u16], caps: &[u64]) -> CapsFound
+    requires { ⌜ treeCheck (treeOf (now parents) (now costs)) ≡ accepted ⌝ }
+    requires { ⌜ now vertices ≡ members (network (treeOf (now parents) [])) ⌝ }
+    requires { ⌜ Capped (length (now vertices)) (now caps) ⌝ }
+    ensures { λ r. ⌜ answerOf (memberCount (network (treeOf (now (parents .entry)) (now (costs .entry))))) r ≡ splitOr9 (network (treeOf (now (parents .entry)) (now (costs .entry)))) (now (caps .entry)) (shortArc (network (treeOf (now (parents .entry)) (now (costs .entry)))) (now (caps .entry)) (length (now (parents .entry)))) ⌝ }
+{
+    let m = parents.len();
+    let mut needs = [0u64; 1023];
+    let mut sums = [0u64; 1023];
+    compare(
+        parents,
+        costs,
+        vertices,
+        caps,
+        &mut needs[0..m],
+        &mut sums[0..m],
+    )
+}

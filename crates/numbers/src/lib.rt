@@ -1,0 +1,17 @@
+// Small choices between numbers, so that the loops that use them have no branch.
+ghost use mathlib.Core.Path.{_≡_};
+ghost use Prim.Native.Nat.{_-_};
+ghost use Rattle.game.specs.Raise.{smaller};
+
+// a less b, 0 where b is greater.
+pub fn above(a: u64, b: u64) -> u64
+    ensures { λ r. ⌜ r ≡ a - b ⌝ }
+{
+    if a < b { 0 } else { a - b }
+}
+
+pub fn smaller_of(a: u64, b: u64) -> u64
+    ensures { λ r. ⌜ r ≡ smaller a b ⌝ }
+{
+    if a < b { a } else { b }
+}

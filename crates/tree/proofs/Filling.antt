@@ -1,0 +1,32 @@
+-- A loop that writes a list from its first place on.
+use Prim.Native.Nat.{ℕ, _+_, _≤_, _<_}
+use mathlib.Core.Path.{_≡_, sym, _∙_}
+use mathlib.Core.List.{List}
+use native.Mathlib.Decide.{ℕ-discrete}
+use native.Mathlib.Omega.{arith}
+use lib.ListN.{length, getD, set, length-set}
+use lib.Seq.{getD-set-same, getD-set-other, ext-getD}
+
+module _ (n : ℕ) (f : ℕ → ℕ) where
+  -- of n places those below i hold what f says
+  pub record Filling (out : List ℕ) (i : ℕ) : Type 0 where
+    pub kept : length out ≡ n
+    pub filled : (u : ℕ) → u < i → getD out u 0 ≡ f u
+
+  pub filling-start : {out : List ℕ} → length out ≡ n → Filling out 0
+  filling-start l = record { kept = l; filled = λ u h. absurd (omega arith) }
+
+  module _ {out : List ℕ} {i : ℕ} (s : Filling out i) where
+    pub filling-on : i < n → (w : ℕ) → w ≡ f i → Filling (set out i w) (i + 1)
+    filling-on h w e =
+        record {
+          kept = length-set out i w ∙ s .kept;
+          filled = λ u l. elim (ℕ-discrete u i) [ yes d ↦ here u d | no d ↦ getD-set-other out i u w 0 d ∙ s .filled u (omega arith) ];
+        }
+      where
+        here : (u : ℕ) → u ≡ i → getD (set out i w) u 0 ≡ f u
+        here u d = rw d (getD-set-same out i w 0 (omega (arith, s .kept)) ∙ e)
+
+    pub filling-end : n ≤ i → (wanted : List ℕ) → length wanted ≡ n → ((u : ℕ) → u < n → getD wanted u 0 ≡ f u) → out ≡ wanted
+    filling-end h wanted e says =
+        ext-getD 0 out wanted (s .kept ∙ sym e) (λ u l. s .filled u (omega (arith, s .kept)) ∙ sym (says u (omega (arith, s .kept))))

@@ -1,0 +1,84 @@
+use Prim.Native.Nat.{ℕ, _-_}
+use mathlib.Core.Path.{_≡_, ap, _∙_}
+use mathlib.Core.List.{[]}
+use lib.ListN.{length, getD, replicate}
+use denote.Ref.{now}
+use native.Mathlib.Omega.{arith}
+use borrow.Author.Needs.{needs}
+use Rattle.game.specs.Network.{members}
+use Rattle.game.specs.Tree.{treeOf, network}
+use Rattle.game.proofs.Sums.{In}
+use Rattle.tree.specs.Passes.{Sound}
+use Rattle.tree.proofs.CapPass.{Placing, placing-start, member-in, placing-on, placing-fits, placing-sums}
+use Rattle.tree.proofs.caps.write_cap_sums.Statement.{statement}
+use Rattle.tree.proofs.caps.write_cap_sums.Tie as tie
+
+abbrev Inv-loop : tie.InvT-loop
+Inv-loop parents vertices caps out₀ j₀ out j =
+    Sound parents × (vertices ≡ members (network (treeOf parents []))) × Placing (network (treeOf parents [])) caps out j
+
+abbrev μ-loop : tie.MeasureT-loop
+μ-loop parents vertices caps out₀ j₀ out j = length vertices - j
+
+loop-holds : tie.Need-loop-holds Inv-loop μ-loop
+loop-holds c =
+    let pre = c .before .before .before .before .before .before .before .before .pre in
+    (pre .0, pre .1 .0, placing-start _ _ (c .before .before .clear .ensures ∙ ap (λ (m : ℕ). replicate m 0) (pre .1 .1 .1)))
+
+-- the turn's member stands at an arc
+member-here : (c : tie.In-loop Inv-loop μ-loop)
+    → In (length (now (c .before .before .before .before .before .before .before .before .before .before .args .parents)))
+    (getD (now (c .before .before .before .before .before .before .before .before .before .before .args .vertices)) (c .before .loop .j) 0)
+member-here c =
+    member-in (network (treeOf (now (c .before .before .before .before .before .before .before .before .before .before .args .parents)) [])) (c .before .loop .inv .1) _ (c .loop-test .taken)
+
+cast-place : tie.Need-cast-place Inv-loop μ-loop
+cast-place c = omega (arith, c .shared-slice-known4 .given (c .before .before .loop .j))
+
+sub-place : tie.Need-sub-place Inv-loop μ-loop
+sub-place c = omega (arith, member-here (c .before))
+
+mul-out-2 : tie.Need-mul-out-2 Inv-loop μ-loop
+mul-out-2 c = omega (arith, member-here (c .before .before), c .before .before .before .loop .inv .0 .few)
+
+slice-write-out : tie.Need-slice-write-out Inv-loop μ-loop
+slice-write-out c = omega (arith, member-here (c .before .before), c .before .before .before .loop .inv .2 .kept)
+
+loop-again : tie.Need-loop-again Inv-loop μ-loop
+loop-again c =
+    let inv = c .before .before .before .loop .inv in
+    (inv .0, inv .1, placing-on _ _ (inv .1) _ _ (c .before .before .loop-test .taken) (omega (arith, member-here (c .before .before))) (inv .2))
+
+add-up-requires : tie.Need-add-up-requires Inv-loop μ-loop
+add-up-requires c κs =
+    let inv = c .before .before .loop .inv in
+    let pre = c .before .before .before .before .before .before .before .before .before .before .before .pre in
+    (inv .0, (inv .2 .kept, omega (arith, placing-fits _ _ (inv .1) (omega arith) (inv .2) (inv .0 .few) (pre .1 .1 .0))))
+
+returns : tie.Need-returns Inv-loop μ-loop
+returns c =
+    let inv = c .before .before .before .before .before .loop .inv in
+    c .before .before .add-up .ensures .1 ∙ placing-sums _ _ (inv .1) (omega arith) (inv .2)
+
+pub write-cap-sums-spec : {M : Type 1} → statement M
+write-cap-sums-spec =
+    tie.close
+    (tie.spec
+    Inv-loop
+    μ-loop
+    (λ c κs. search needs)
+    loop-holds
+    (λ c. search needs)
+    (λ c. search needs)
+    cast-place
+    sub-place
+    (λ c. search needs)
+    (λ c. search needs)
+    mul-out-2
+    slice-write-out
+    (λ c. search needs)
+    (λ c. search needs)
+    loop-again
+    add-up-requires
+    (λ c. search needs)
+    returns)

@@ -1,0 +1,39 @@
+// The cap sums of all arcs: the members' caps at their vertices, added up from below.
+use crate::sums::add_up;
+ghost use mathlib.Core.Path.{_≡_};
+ghost use mathlib.Core.List.{[]};
+ghost use lib.ListN.{length, replicate};
+ghost use Rattle.game.specs.Sum.{list};
+ghost use Rattle.game.specs.Network.{members};
+ghost use Rattle.game.specs.Tree.{treeOf, network};
+ghost use Rattle.answers.specs.Level.{Capped, capSum};
+ghost use Rattle.tree.specs.Passes.{Sound};
+
+// Writes 0 at every place.
+pub fn clear(out: &mut [u64])
+    ensures { λ _. ⌜ now (out .exit) ≡ replicate (length (now (out .entry))) 0 ⌝ }
+{
+    let mut i = 0;
+    while i < out.len() {
+        out[i] = 0;
+        i += 1;
+    }
+}
+
+// Writes for each arc what the caps of its users add up to.
+pub fn write_cap_sums(parents: &[u16], vertices: &[u16], caps: &[u64], out: &mut [u64])
+    requires { ⌜ Sound (now parents) ⌝ }
+    requires { ⌜ now vertices ≡ members (network (treeOf (now parents) [])) ⌝ }
+    requires { ⌜ Capped (length (now vertices)) (now caps) ⌝ }
+    requires { ⌜ length (now out) ≡ length (now parents) ⌝ }
+    ensures { λ _. ⌜ now (out .exit) ≡ list (length (now (parents .entry))) (capSum (network (treeOf (now (parents .entry)) [])) (now (caps .entry))) ⌝ }
+{
+    clear(out);
+    let mut j = 0;
+    while j < vertices.len() {
+        let place = vertices[j] as usize - 1;
+        out[place] = caps[j];
+        j += 1;
+    }
+    add_up(parents, out);
+}

@@ -1,0 +1,3 @@
+pub mod Passing
+pub mod BelowPass
+pub mod UserPass
