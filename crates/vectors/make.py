@@ -34,6 +34,7 @@ from levels import (
     small_levels,
     worst_levels,
 )
+from divisions import division_refusals, large_divisions, leftovers, random_divisions
 from unreadable import UNREADABLE
 
 
@@ -66,6 +67,8 @@ STATED = [
     (("level", *T, [3, 9, 4], 3), "split 3: 3,9,4"),
     (("level", *T, [3, 8, 100], 3), "refused 9 at 1 short 1: 9,9,9"),
     (("level", *U, [3, 100], 2), "split 2: 3,4"),
+    (("byarc", *T, 3), "members 3: 4,8,4"),
+    (("byarc", *U, 2), "members 2: 4,3"),
 ]
 
 PARTS = [
@@ -91,6 +94,10 @@ PARTS = [
     large_costs,
     worst_levels,
     random_levels,
+    leftovers,
+    large_divisions,
+    division_refusals,
+    random_divisions,
 ]
 
 MOST_INPUT = 1 << 21

@@ -1,23 +1,23 @@
 -- Demand 3 about the level split's answers and lists.
-use Prim.Native.Nat.{ℕ, zero, suc, pred, _*_, _-_, _≤_, _<_}
-use mathlib.Core.Path.{_≡_, refl, sym, ap, ap₂, _∙_, subst}
+use Prim.Native.Nat.{ℕ, zero, suc, _*_, _-_, _≤_, _<_}
+use mathlib.Core.Path.{_≡_, refl, sym, ap, _∙_, subst}
 use mathlib.Core.Bool.{Bool, true, false}
 use mathlib.Core.Logic.{⊎-elim}
 use mathlib.Core.List.{List, map}
 use native.Mathlib.Omega.{arith}
 use lib.ListN.{getD, List·getD-map}
-use lib.IntN.{ℤ, pos, negsuc, _+ℤ_, _*ℤ_}
+use lib.IntN.{ℤ, pos, negsuc, _*ℤ_}
 use lib.Signed.{_≤ℤ_}
-use Rattle.game.specs.Sum.{pick, sum}
+use Rattle.game.specs.Sum.{pick}
 use Rattle.game.specs.Network.{atOrBelow, need, number, memberCount, sumBelow, wholeCost}
 use Rattle.game.specs.Tree.{Tree, network}
-use Rattle.game.specs.Proposal.{plus, minus, share, sumℤ, pays}
+use Rattle.game.specs.Proposal.{plus, minus, share, pays}
 use Rattle.game.specs.Core.{users, CoreByNeed, IsArc, AddsUp}
 use Rattle.game.specs.Level.{level}
 use Rattle.game.proofs.Bools.{both, pick-yes, pick-no, pick-zero, pick-both-le}
 use Rattle.game.proofs.Sums.{In, sum-cong, sum-mono, sum-zero}
 use Rattle.game.proofs.Below.{Rooted}
-use Rattle.game.proofs.Integers.{less-parts, less-le, le-less, less-same}
+use Rattle.game.proofs.Integers.{less-parts, less-le, le-less, less-same, sum-pos-ℤ}
 use Rattle.game.proofs.Overpayment.{over-at, under-at, less-pays, members-sum, number-lt}
 use Rattle.game.proofs.Numbering.{vertex-of}
 use Rattle.game.proofs.Core.{users-sum, core-to-bound, bound-to-need, need-to-core, core-nonneg, enough}
@@ -31,11 +31,6 @@ use Rattle.answers.specs.LevelLaws.{Fits, squareSum, ShortAt, LevelLaws,
 use Rattle.answers.proofs.Accepted.{first-accepted, tree-accepted}
 use Rattle.answers.proofs.CoreLaws.{members-end}
 use Rattle.answers.proofs.ShortArc.{FirstShort, none-short, first-short}
-
--- a sum of numbers none of which is negative
-sum-pos-ℤ : (m : ℕ) (f : ℕ → ℤ) (g : ℕ → ℕ) → ((j : ℕ) → j < m → f j ≡ pos (g j)) → sumℤ m f ≡ pos (sum m (λ i. g (pred i)))
-sum-pos-ℤ zero f g h = refl
-sum-pos-ℤ (suc m) f g h = ap₂ (λ (a b : ℤ). a +ℤ b) (sum-pos-ℤ m f g (λ j l. h j (omega arith))) (h m (omega arith))
 
 square-of : (x : ℤ) → minus x ≡ 0 → x *ℤ x ≡ pos (plus x * plus x)
 square-of (pos a) e = refl

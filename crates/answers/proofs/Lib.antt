@@ -6,3 +6,5 @@ pub mod CoreLaws
 pub mod LevelLaws
 pub mod ShortArc
 pub mod Table
+mod InRange
+pub mod ByArcLaws

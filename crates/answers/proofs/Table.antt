@@ -12,10 +12,12 @@ use Rattle.answers.specs.GroupCost.{groupCostAnswer}
 use Rattle.answers.specs.Audit.{verdict, auditAnswer, auditWords}
 use Rattle.game.specs.Level.{firstLeast, units, arcsDown}
 use Rattle.answers.specs.Level.{shortArc, levelAnswer, levelList}
+use Rattle.game.specs.ByArc.{giveArc, byArcDown}
+use Rattle.answers.specs.ByArc.{byArcAnswer, byArcList}
 use Rattle.answers.specs.Table.{Table}
 
 pub table : Table
-unfolding climb used groupCost sumBelow wholeCost membersTo hasChild bit size wordsOf pays groups best named arcsCheck treeCheck bitsCheck rangeCheck memberCountAnswer membersAnswer membersList needsAnswer needsList groupCostAnswer verdict auditAnswer auditWords firstLeast units arcsDown shortArc levelAnswer levelList
+unfolding climb used groupCost sumBelow wholeCost membersTo hasChild bit size wordsOf pays groups best named arcsCheck treeCheck bitsCheck rangeCheck memberCountAnswer membersAnswer membersList needsAnswer needsList groupCostAnswer verdict auditAnswer auditWords firstLeast units arcsDown shortArc levelAnswer levelList giveArc byArcDown byArcAnswer byArcList
 table =
     record {
       T-members = refl;
@@ -45,6 +47,10 @@ table =
       T-level-3-8-100-list = refl;
       U-level-3-100 = refl;
       U-level-3-100-list = refl;
+      T-by-arc = refl;
+      T-by-arc-list = refl;
+      U-by-arc = refl;
+      U-by-arc-list = refl;
       T-level-0 = refl;
       U-level-100-list = refl;
     }

@@ -5,8 +5,10 @@ pub mod Needs
 pub mod GroupCost
 pub mod Audit
 pub mod Level
+pub mod ByArc
 pub mod Laws
 pub mod AuditLaws
 pub mod CoreLaws
 pub mod LevelLaws
+pub mod ByArcLaws
 pub mod Table

@@ -11,6 +11,7 @@ use Rattle.answers.specs.Needs.{needsAnswer, needsList}
 use Rattle.answers.specs.GroupCost.{groupCostAnswer}
 use Rattle.answers.specs.Audit.{wrongTotal, objection, pass, auditAnswer, auditWords}
 use Rattle.answers.specs.Level.{split, refusal, levelAnswer, levelList}
+use Rattle.answers.specs.ByArc.{byArcAnswer, byArcList}
 
 -- document 01's tree T
 abbrev pub T : Tree
@@ -56,6 +57,10 @@ pub record Table : Type 0 where
   pub T-level-3-8-100-list : levelList T (3 ∷ 8 ∷ 100 ∷ []) (9 ∷ 9 ∷ 9 ∷ []) ≡ 9 ∷ 9 ∷ 9 ∷ []
   pub U-level-3-100 : levelAnswer U (3 ∷ 100 ∷ []) (9 ∷ 9 ∷ []) ≡ split 2
   pub U-level-3-100-list : levelList U (3 ∷ 100 ∷ []) (9 ∷ 9 ∷ []) ≡ 3 ∷ 4 ∷ []
+  pub T-by-arc : byArcAnswer T (9 ∷ 9 ∷ 9 ∷ []) ≡ value 3
+  pub T-by-arc-list : byArcList T (9 ∷ 9 ∷ 9 ∷ []) ≡ 4 ∷ 8 ∷ 4 ∷ []
+  pub U-by-arc : byArcAnswer U (9 ∷ 9 ∷ []) ≡ value 2
+  pub U-by-arc-list : byArcList U (9 ∷ 9 ∷ []) ≡ 4 ∷ 3 ∷ []
   -- beyond document 01's rows: every arc is short, and a rest of 1 between two users
   pub T-level-0 : levelAnswer T (0 ∷ 0 ∷ 0 ∷ []) (9 ∷ 9 ∷ 9 ∷ []) ≡ refusal 9 4 4
   pub U-level-100-list : levelList U (100 ∷ 100 ∷ []) (9 ∷ 9 ∷ []) ≡ 4 ∷ 3 ∷ []

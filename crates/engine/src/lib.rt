@@ -1,4 +1,5 @@
 // The public entries over lists as they are handed in. Each answers its value or a refusal by number and place.
+mod divide;
 mod group;
 mod members;
 mod needs;
@@ -8,6 +9,7 @@ mod verdict;
 pub use checks::Checked;
 pub use checks::Refusal;
 pub use checks::check_tree;
+pub use divide::split_by_arc;
 pub use group::GroupCost;
 pub use group::group_cost;
 pub use level::check_caps;

@@ -1,9 +1,9 @@
 -- The users of an arc as the list that the split works on.
 use Prim.Native.Nat.{ℕ, _-_, _≤_}
-use mathlib.Core.Path.{_≡_, sym, ap, _∙_, subst}
+use mathlib.Core.Path.{_≡_, sym, _∙_, subst}
 use mathlib.Core.List.{List, []}
 use native.Mathlib.Omega.{arith}
-use lib.ListN.{length, take}
+use lib.ListN.{length}
 use Rattle.game.specs.Network.{members, memberCount}
 use Rattle.game.specs.Tree.{treeOf, network}
 use Rattle.game.specs.Core.{users}
@@ -17,10 +17,6 @@ use Rattle.users.proofs.Passing.{passing-length, passing-below}
 use Rattle.users.proofs.UserPass.{vertices-few, vertices-count}
 use Rattle.fill.specs.Fill.{Numbers, Shared}
 use Rattle.fill.proofs.Bulk.{raised-units}
-
--- the part from 0 on
-pub part-all : (count : ℕ) (l : List ℕ) → take (count - 0) l ≡ take count l
-part-all count l = let e : count - 0 ≡ count = omega arith in ap (λ (c : ℕ). take c l) e
 
 module _ (parents vertices caps shares : List ℕ) (k : ℕ) (us : List ℕ) (sound : Sound parents) (are : vertices ≡ members (network (treeOf parents [])))
     (capped : Capped (length vertices) caps) (sized : length shares ≡ length vertices) (list : us ≡ usersOf (network (treeOf parents [])) k) where

@@ -2,16 +2,8 @@
 use crate::part_of;
 ghost use mathlib.Core.Path.{_≡_};
 ghost use Prim.Native.Nat.{_≤_};
-ghost use lib.Dec.{ltb};
-ghost use Rattle.game.specs.Sum.{pick};
 ghost use Rattle.answers.specs.Checks.{mostShare};
 ghost use Rattle.fill.specs.Fill.{Numbers, raised};
-
-fn one_if_some(rest: u64) -> u64
-    ensures { λ r. ⌜ r ≡ pick (ltb 0 rest) 1 ⌝ }
-{
-    if 0 < rest { 1 } else { 0 }
-}
 
 // Raises each user to the level, and to one above it while some of the rest is left.
 pub fn raise(users: &[u16], caps: &[u64], shares: &mut [u64], level: u64, rest: u64)
@@ -25,7 +17,7 @@ pub fn raise(users: &[u16], caps: &[u64], shares: &mut [u64], level: u64, rest: 
         let u = users[i] as usize;
         let cap = caps[u];
         let share = shares[u];
-        let more = part_of(cap, share, level + one_if_some(left));
+        let more = part_of(cap, share, level + numbers::one_if_below(0, left));
         let even = part_of(cap, share, level);
         shares[u] = share + more;
         left -= more - even;

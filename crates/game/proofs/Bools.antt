@@ -101,6 +101,11 @@ pick-yes x e = rw e
 pub pick-no : {b : Bool} (x : ℕ) → b ≡ false → pick b x ≡ 0
 pick-no x e = rw e
 
+-- amounts that are equal where the test holds
+pub pick-same : (b : Bool) {x y : ℕ} → (b ≡ true → x ≡ y) → pick b x ≡ pick b y
+pick-same true h = h refl
+pick-same false h = refl
+
 pub pick-le : (b : Bool) (x : ℕ) → pick b x ≤ x
 pick-le true x = le-refl x
 pick-le false x = zero-le

@@ -1,6 +1,6 @@
 -- Whole numbers by their parts: `Less x a b` says that x is a less b, and turns sums, orders and equations of whole numbers into such of ℕ.
 use Prim.Native.Nat.{ℕ, zero, suc, pred, _+_, _≤_, _<_}
-use mathlib.Core.Path.{_≡_, refl, sym, ap, subst}
+use mathlib.Core.Path.{_≡_, refl, sym, ap, ap₂, subst}
 use mathlib.Core.Bool.{Bool, true, false, not, false≢true}
 use mathlib.Core.Logic.{⊎-elim}
 use native.Mathlib.Omega.{arith}
@@ -134,3 +134,8 @@ less-sum (suc n) g f =
       plus-pick (g n) (f n),
       minus-pick (g n) (f n),
     )
+
+-- a sum of numbers none of which is negative
+pub sum-pos-ℤ : (m : ℕ) (f : ℕ → ℤ) (x : ℕ → ℕ) → ((j : ℕ) → j < m → f j ≡ pos (x j)) → sumℤ m f ≡ pos (sum m (λ i. x (pred i)))
+sum-pos-ℤ zero f x h = refl
+sum-pos-ℤ (suc m) f x h = ap₂ (λ (a b : ℤ). a +ℤ b) (sum-pos-ℤ m f x (λ j l. h j (omega arith))) (h m (omega arith))

@@ -25,3 +25,11 @@ pub mod LevelRule
 pub mod LevelList
 pub mod Raise
 pub mod LevelRoom
+mod Meets
+mod GroupSums
+mod Weights
+pub mod Shapley
+pub mod Even
+pub mod Gifts
+pub mod EvenCore
+pub mod ByArc

@@ -9,7 +9,7 @@ use lib.Seq.{getD-at, ext-getD}
 use Rattle.game.specs.Sum.{list}
 
 module _ {A : Type 0} (f : ℕ → A) (d : A) where
-  list-length : (m : ℕ) → length (list m f) ≡ m
+  pub list-length : (m : ℕ) → length (list m f) ≡ m
   list-length zero = refl
   list-length (suc m) = omega (arith, length-append (list m f) (f (suc m) ∷ []), list-length m)
 

@@ -1,10 +1,11 @@
--- The size of a group: one number more, at most the range, a range in two parts, equal by points.
+-- The size of a group: one number more, at most the range, a range in two parts, from the first number on, equal by points.
 use Prim.Native.Nat.{ℕ, zero, suc, _+_, _<_, _≤_}
 use mathlib.Core.Path.{_≡_, refl, sym, ap, ap₂, _∙_}
 use mathlib.Core.Bool.{Bool, true, false}
 use native.Mathlib.Nat.{add-zero, add-suc}
 use mathlib.Core.Logic.{⊎-elim}
 use native.Mathlib.Decide.{decLt}
+use native.Mathlib.Numerals.{one-add}
 use native.Mathlib.Omega.{arith}
 use Rattle.game.specs.Sum.{pick}
 use Rattle.game.specs.Group.{size}
@@ -23,6 +24,11 @@ pub size-split : (n m : ℕ) (g : ℕ → Bool) → size (n + m) g ≡ size n g 
 unfolding size
 size-split n zero g = rw (add-zero n) (omega arith)
 size-split n (suc m) g = rw add-suc (omega (arith, size-split n m g))
+
+-- from the first number on
+pub size-first : (n : ℕ) (g : ℕ → Bool) → size (suc n) g ≡ pick (g 0) 1 + size n (λ i. g (suc i))
+unfolding size
+size-first n g = omega (arith, simp one-add at (size-split 1 n g))
 
 pub size-same : (n : ℕ) (f g : ℕ → Bool) → ((i : ℕ) → i < n → f i ≡ g i) → size n f ≡ size n g
 unfolding size

@@ -1,14 +1,14 @@
 -- Laws of sums and tests over 1 to m.
 use Prim.Native.Nat.{ℕ, zero, suc, _+_, _*_, _≤_, _<_, zero-le}
 use mathlib.Core.Path.{_≡_, refl, sym, ap, ap₂, _∙_}
-use mathlib.Core.Bool.{Bool, true, not, _||_, false≢true}
+use mathlib.Core.Bool.{Bool, true, false, not, _||_, false≢true}
 use mathlib.Core.Logic.{⊎-elim}
-use native.Mathlib.Nat.{le-refl, suc-mul}
+use native.Mathlib.Nat.{le-refl, mul-zero, mul-one, suc-mul}
 use native.Mathlib.Decide.{decLe, decLt}
 use native.Mathlib.Omega.{arith}
 use borrow.Author.Tests.{eq-eqb, ne-eqb, lt-ltb}
 use lib.Dec.{eqb, ltb}
-use Rattle.game.specs.Sum.{pick, sum, some}
+use Rattle.game.specs.Sum.{pick, sum, count, some}
 use Rattle.game.proofs.Bools.{pick-zero, pick-add, pick-parts, pick-yes, pick-no, or-first, or-second, or-cases}
 
 -- k is one of 1 to m
@@ -33,6 +33,18 @@ sum-mono (suc m) {f} {g} h = omega (arith, sum-mono m {f = f} {g = g} (λ k i. h
 pub sum-add : (m : ℕ) (f g : ℕ → ℕ) → sum m (λ k. f k + g k) ≡ sum m f + sum m g
 sum-add zero f g = refl
 sum-add (suc m) f g = omega (arith, sum-add m f g)
+
+pub sum-times : (m c : ℕ) (f : ℕ → ℕ) → c * sum m f ≡ sum m (λ k. c * f k)
+sum-times zero c f = mul-zero c
+sum-times (suc m) c f = omega (arith, sum-times m c f)
+
+-- one amount, as often as the test holds
+pub sum-count : (m x : ℕ) (f : ℕ → Bool) → sum m (λ k. pick (f k) x) ≡ x * count m f
+sum-count m x f = sum-cong m (λ k i. sym (times-pick x (f k))) ∙ sym (sum-times m x (λ k. pick (f k) 1))
+  where
+    times-pick : (x : ℕ) (b : Bool) → x * pick b 1 ≡ pick b x
+    times-pick x true = mul-one x
+    times-pick x false = mul-zero x
 
 pub sum-zero : (m : ℕ) {f : ℕ → ℕ} → ((k : ℕ) → In m k → f k ≡ 0) → sum m f ≡ 0
 sum-zero zero h = refl

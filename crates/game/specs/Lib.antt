@@ -7,3 +7,5 @@ pub mod Search
 pub mod Core
 pub mod Level
 pub mod Raise
+pub mod ByArc
+pub mod Shapley

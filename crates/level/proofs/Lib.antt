@@ -1,4 +1,3 @@
 pub mod Shortage
 pub mod Splitting
 pub mod CapsAccepted
-pub mod Lent

@@ -1,6 +1,8 @@
 // Small choices between numbers, so that the loops that use them have no branch.
 ghost use mathlib.Core.Path.{_≡_};
 ghost use Prim.Native.Nat.{_-_};
+ghost use lib.Dec.{ltb};
+ghost use Rattle.game.specs.Sum.{pick};
 ghost use Rattle.game.specs.Raise.{smaller};
 
 // a less b, 0 where b is greater.
@@ -14,4 +16,11 @@ pub fn smaller_of(a: u64, b: u64) -> u64
     ensures { λ r. ⌜ r ≡ smaller a b ⌝ }
 {
     if a < b { a } else { b }
+}
+
+// 1 where a is below b, else 0.
+pub fn one_if_below(a: u64, b: u64) -> u64
+    ensures { λ r. ⌜ r ≡ pick (ltb a b) 1 ⌝ }
+{
+    if a < b { 1 } else { 0 }
 }

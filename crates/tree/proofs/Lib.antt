@@ -5,3 +5,4 @@ pub mod SumPass
 pub mod Filling
 pub mod CapPass
 pub mod GroupPass
+pub mod Lent

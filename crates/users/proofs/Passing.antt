@@ -1,12 +1,13 @@
 -- The laws of the list of the numbers that pass a test.
 use Prim.Native.Nat.{ℕ, zero, suc, pred, _+_, _≤_, _<_}
-use mathlib.Core.Path.{_≡_, ap, _∙_}
+use mathlib.Core.Path.{_≡_, refl, sym, ap, _∙_}
 use mathlib.Core.Bool.{Bool, true, false}
 use mathlib.Core.Logic.{⊎-elim}
-use mathlib.Core.List.{_∷_}
+use mathlib.Core.List.{List, [], _∷_}
 use native.Mathlib.Omega.{arith}
 use lib.ListN.{length, getD}
 use Rattle.game.specs.Sum.{pick, sum}
+use Rattle.game.specs.Group.{size}
 use Rattle.game.proofs.Bools.{both}
 use Rattle.users.specs.Users.{passing, total}
 
@@ -61,3 +62,13 @@ module _ (f : ℕ → Bool) where
 
     pub passing-sum : (n : ℕ) → total g (passing f 0 n) ≡ sum n (λ i. pick (f (pred i)) (g (pred i)))
     passing-sum n = let e : 0 + n ≡ n = omega arith in omega (arith, sum-on 0 n, ap (λ (i : ℕ). sum i term) e)
+
+  total-ones : (us : List ℕ) → total (λ j. 1) us ≡ length us
+  unfolding total
+  total-ones [] = refl
+  total-ones (u ∷ us) = omega (arith, total-ones us)
+
+  -- as many as pass
+  pub passing-size : (n : ℕ) → length (passing f 0 n) ≡ size n f
+  unfolding size
+  passing-size n = sym (total-ones (passing f 0 n)) ∙ passing-sum (λ j. 1) n

@@ -1,5 +1,5 @@
 -- An arc's users in a pass over the members that writes the number of each user into a list.
-use Prim.Native.Nat.{ℕ, suc, pred, _+_, _≤_, _<_}
+use Prim.Native.Nat.{ℕ, suc, pred, _+_, _-_, _≤_, _<_}
 use mathlib.Core.Path.{_≡_, refl, sym, ap, ap₂, _∙_}
 use mathlib.Core.Bool.{Bool, true, false}
 use mathlib.Core.Logic.{⊎-elim}
@@ -18,6 +18,10 @@ use Rattle.tree.specs.Passes.{Sound}
 use Rattle.tree.proofs.MemberPass.{isMember}
 use Rattle.users.specs.Users.{passing, Below}
 use Rattle.users.proofs.Passing.{passing-yes, passing-no}
+
+-- the users' part of the array, lent from place 0 on
+pub part-all : (count : ℕ) (l : List ℕ) → take (count - 0) l ≡ take count l
+part-all count l = let e : count - 0 ≡ count = omega arith in ap (λ (c : ℕ). take c l) e
 
 module _ (f : ℕ → Bool) (n : ℕ) where
   -- of the numbers below n those below j are done, and `left` are still to come

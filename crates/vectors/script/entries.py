@@ -14,6 +14,7 @@ from rules import (
     ones,
     words_of,
 )
+from by_arc import by_arc_split
 from level import level_split
 
 UNTOUCHED = 9
@@ -78,6 +79,14 @@ def answer_level(parents, costs, caps, out):
     return f"split {count}"
 
 
+def answer_by_arc(parents, costs, out):
+    check_tree(parents, costs)
+    count = len(member_vertices(parents))
+    check_output(out, count)
+    out[:] = by_arc_split(parents, costs)
+    return f"members {count}"
+
+
 def answer_caps(count, caps):
     check_caps(count, caps)
     return "accepted"
@@ -93,10 +102,11 @@ ENTRIES = {
     "shares": answer_shares,
     "level": answer_level,
     "caps": answer_caps,
+    "byarc": answer_by_arc,
 }
 
 # the commands whose last field is the length of an output list
-WRITING = {"members", "needs", "level"}
+WRITING = {"members", "needs", "level", "byarc"}
 
 
 def shown(field):

@@ -18,6 +18,7 @@ def every_entry(parents, costs, words=words_of([0])):
         ("shares", count, [0] * count),
         ("level", parents, costs, [sum(costs)] * count, count),
         ("caps", count, [0] * count),
+        ("byarc", parents, costs, count),
     ]
 
 

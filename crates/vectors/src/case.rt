@@ -50,6 +50,23 @@ fn needs(parents: &[u16], costs: &[u32], length: &[u8]) {
     list_needs(parents, costs, &mut out[0..n]);
 }
 
+// As list_members.
+fn split_by_arc(parents: &[u16], costs: &[u32], out: &mut [u64]) {
+    print::member_count(engine::split_by_arc(parents, costs, out));
+    cases::print::list(out);
+}
+
+// As members.
+fn by_arc(parents: &[u16], costs: &[u32], length: &[u8]) {
+    let wanted = number::up_to(length, MOST as u64);
+    if !wanted.readable {
+        return print::bad_case();
+    }
+    let n = wanted.value as usize;
+    let mut out = [9u64; MOST];
+    split_by_arc(parents, costs, &mut out[0..n]);
+}
+
 fn group(parents: &[u16], costs: &[u32], words: &[u8]) {
     let mut group = [0u64; WORDS];
     let found = list::read(words, u64::MAX, &mut group);
@@ -102,6 +119,7 @@ fn on_tree(c: Command, parents: &[u16], costs: &[u32], third: &[u8], fourth: &[u
         Command::Group => group(parents, costs, third),
         Command::Audit => audit(parents, costs, third),
         Command::Level => level(parents, costs, third, fourth),
+        Command::ByArc => by_arc(parents, costs, third),
         _ => print::bad_case(),
     }
 }

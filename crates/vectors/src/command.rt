@@ -11,13 +11,14 @@ pub enum Command {
     Shares,
     Level,
     Caps,
+    ByArc,
     Unknown,
 }
 
 pub fn named(name: &[u8]) -> Command {
     match field::find(
-        b"check count members needs group audit shares level caps",
-        9,
+        b"check count members needs group audit shares level caps byarc",
+        10,
         name,
     ) {
         0 => Command::Check,
@@ -29,6 +30,7 @@ pub fn named(name: &[u8]) -> Command {
         6 => Command::Shares,
         7 => Command::Level,
         8 => Command::Caps,
+        9 => Command::ByArc,
         _ => Command::Unknown,
     }
 }
@@ -45,6 +47,7 @@ pub fn fields(c: Command) -> usize {
         Command::Shares => 3,
         Command::Level => 5,
         Command::Caps => 3,
+        Command::ByArc => 4,
         Command::Unknown => 0,
     }
 }

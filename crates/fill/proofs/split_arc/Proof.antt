@@ -1,6 +1,7 @@
 use mathlib.Core.Path.{_∙_}
 use denote.Ref.{now}
-use Rattle.fill.proofs.Arc.{part-all, users-numbers, shared-units}
+use Rattle.users.proofs.UserPass.{part-all}
+use Rattle.fill.proofs.Arc.{users-numbers, shared-units}
 use borrow.Author.Needs.{needs}
 use Rattle.fill.proofs.split_arc.Statement.{statement}
 use Rattle.fill.proofs.split_arc.Tie as tie

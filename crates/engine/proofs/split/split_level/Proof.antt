@@ -13,7 +13,7 @@ use Rattle.answers.proofs.Limits.{members-bound}
 use Rattle.checks.specs.Checked.{checkOf}
 use Rattle.checks.proofs.Opened.{opened, turned-away}
 use Rattle.tree.proofs.Bounds.{sound}
-use Rattle.level.proofs.Lent.{sized}
+use Rattle.tree.proofs.Lent.{sized}
 use Rattle.engine.proofs.LevelAnswer.{tree-turned-down, caps-turned-down, output-turned-down, all-accepted}
 use borrow.Author.Needs.{needs}
 use Rattle.engine.proofs.split.split_level.Statement.{statement}

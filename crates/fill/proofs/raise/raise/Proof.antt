@@ -43,7 +43,7 @@ slice-read-share : tie.Need-slice-read-share Inv-loop μ-loop
 slice-read-share c = omega (arith, user-here (c .before .before .before), c .before .before .before .before .loop .inv .0 .same)
 
 add-part-of : tie.Need-add-part-of Inv-loop μ-loop
-add-part-of c = omega (arith, c .one-if-some .ensures, pick-le (ltb 0 (c .before .before .before .before .before .loop .left)) 1, c .before .before .before .before .before .loop .inv .1)
+add-part-of c = omega (arith, c .one-if-below .ensures, pick-le (ltb 0 (c .before .before .before .before .before .loop .left)) 1, c .before .before .before .before .before .loop .inv .1)
 
 -- the user's share and cap fit, so the share raised fits
 add-shares : tie.Need-add-shares Inv-loop μ-loop
@@ -54,7 +54,7 @@ add-shares c =
     omega (
       arith,
       c .before .part-of .ensures,
-      raised-most 18446744073709551615 (getD (now (given .caps)) u 0) (getD (at .shares) u 0) (given .level + c .before .before .one-if-some .result)
+      raised-most 18446744073709551615 (getD (now (given .caps)) u 0) (getD (at .shares) u 0) (given .level + c .before .before .one-if-below .result)
           (omega (arith, c .before .before .before .slice-known2 .given u)) (omega (arith, c .before .before .before .before .shared-slice-known4 .given u)),
     )
 
@@ -71,7 +71,7 @@ turn c =
     let given = c .before .before .before .before .before .before .before .before .before .before .before .args in
     let u = getD (now (given .users)) (at .i) 0 in
     record {
-      aims = c .before .part-of .ensures ∙ ap (λ (one : ℕ). took (getD (now (given .caps)) u 0) (getD (at .shares) u 0) (given .level + one)) (c .before .before .one-if-some .ensures);
+      aims = c .before .part-of .ensures ∙ ap (λ (one : ℕ). took (getD (now (given .caps)) u 0) (getD (at .shares) u 0) (given .level + one)) (c .before .before .one-if-below .ensures);
       level-only = c .part-of2 .ensures;
     }
 

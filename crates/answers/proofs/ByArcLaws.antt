@@ -1,0 +1,89 @@
+-- Demand 2 of the by-arc split.
+use Prim.Native.Nat.{ℕ, suc, pred, _≤_, _<_}
+use mathlib.Core.Path.{_≡_, ap, _∙_}
+use mathlib.Core.List.{List, map}
+use native.Mathlib.Omega.{arith}
+use borrow.Author.Tests.{le-ltb}
+use lib.ListN.{length, getD, List·getD-map, length-map}
+use lib.IntN.{pos}
+use Rattle.game.specs.Network.{memberCount, wholeCost}
+use Rattle.game.specs.Tree.{Tree, network}
+use Rattle.game.specs.Core.{Core}
+use Rattle.game.specs.ByArc.{userCount, gift, byArc}
+use Rattle.game.specs.Shapley.{Even}
+use Rattle.game.proofs.Sums.{In, sum-mono, term-le}
+use Rattle.game.proofs.DeadEnds.{tree-ends, every-arc-used}
+use Rattle.game.proofs.Core.{need-to-core}
+use Rattle.game.proofs.Shapley.{shapley-by-arcs, whole-part}
+use Rattle.game.proofs.Even.{even-near}
+use Rattle.game.proofs.Gifts.{gift-even}
+use Rattle.game.proofs.EvenCore.{even-core}
+use Rattle.game.proofs.ByArc.{used-count, by-arc-length, by-arc-at}
+use Rattle.answers.specs.Answer.{Check, accepted, written}
+use Rattle.answers.specs.Checks.{treeCheck, outputCheck, mostShare, outsideShare}
+use Rattle.answers.specs.Members.{membersCheck}
+use Rattle.answers.specs.Audit.{auditCheck}
+use Rattle.answers.specs.ByArc.{byArcList}
+use Rattle.answers.specs.ByArcLaws.{ByArcStatement}
+use Rattle.answers.proofs.Accepted.{Accepted, first-accepted, tree-accepted}
+use Rattle.answers.proofs.Limits.{whole-bound}
+use Rattle.answers.proofs.InRange.{in-range}
+use Rattle.answers.proofs.CoreLaws.{members-end}
+use Rattle.answers.proofs.AuditLaws.{audit-laws}
+
+module _ (t : Tree) (out : List ℕ) (ok : membersCheck t out ≡ accepted) where
+  tree-ok : treeCheck t ≡ accepted
+  tree-ok = first-accepted (treeCheck t) (outputCheck (memberCount (network t)) out) ok
+
+  acc : Accepted t
+  acc = tree-accepted t tree-ok
+
+  list : byArcList t out ≡ byArc (network t)
+  unfolding byArcList
+  list = ap (λ (c : Check). written c out (byArc (network t))) ok
+
+  some-users : (k : ℕ) → In (network t .arcs) k → 0 < userCount (network t) k
+  some-users k i = used-count (network t) k (every-arc-used (network t) (acc .rooted) (tree-ends t) k i)
+
+  gifts : (k : ℕ) → In (network t .arcs) k → Even (network t) k (gift (network t) k)
+  gifts k i = gift-even (network t) k (some-users k i)
+
+  core : Core (network t) (map pos (byArcList t out))
+  core =
+      rw list
+      (need-to-core (network t) (acc .rooted) (members-end t) (map pos (byArc (network t)))
+      (even-core (network t) (byArc (network t)) (gift (network t)) gifts (by-arc-at (network t)) (acc .rooted)))
+
+  -- no share is above the whole cost
+  share-most : (j : ℕ) → j < memberCount (network t) → getD (byArc (network t)) j 0 ≤ mostShare
+  unfolding wholeCost
+  share-most j h =
+      omega (
+        arith,
+        by-arc-at (network t) j h,
+        sum-mono (network t .arcs) {f = λ k. gift (network t) k j} {g = network t .cost}
+            (λ k i. omega (arith, gifts k i .all, term-le (memberCount (network t)) (suc j) (λ v. gift (network t) k (pred v)) (omega arith))),
+        whole-bound t acc,
+      )
+
+  proposed : auditCheck t (map pos (byArcList t out)) ≡ accepted
+  proposed =
+      rw (list, tree-ok)
+      (in-range outsideShare (pos 0) (memberCount (network t)) (map pos (byArc (network t))) sized
+      (λ i h.
+      ap outsideShare (List·getD-map pos (byArc (network t)) i 0)
+      ∙ le-ltb mostShare (getD (byArc (network t)) i 0) (share-most i (omega (arith, sized)))))
+    where
+      sized : length (map pos (byArc (network t))) ≡ memberCount (network t)
+      sized = length-map (byArc (network t)) pos ∙ by-arc-length (network t)
+
+pub by-arc-laws : ByArcStatement
+by-arc-laws t out ok =
+    record {
+      in-core = core t out ok;
+      passes = audit-laws t (map pos (byArcList t out)) (proposed t out ok) .passes .1 (core t out ok .adds-up, core t out ok .no-group-more);
+      near = λ j h.
+          rw (list t out ok, by-arc-at (network t) j h) (even-near (network t) j h (acc t out ok .rooted) (gift (network t)) (gifts t out ok));
+      theorem-1 = shapley-by-arcs (network t);
+      whole-part = λ k a. whole-part (network t) k (some-users t out ok k (record { low = a .first; high = a .last }));
+    }

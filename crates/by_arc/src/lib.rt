@@ -1,0 +1,5 @@
+// The by-arc split: each arc's cost is divided among its users, the units left over going to the lowest numbers.
+mod arcs;
+mod hand;
+
+pub use arcs::split_arcs;

@@ -1,0 +1,80 @@
+use Prim.Native.Nat.{ℕ, _≤_}
+use mathlib.Core.Path.{_≡_, ap, _∙_}
+use native.Mathlib.Omega.{arith}
+use lib.ListN.{length}
+use denote.Ref.{now}
+use Rattle.game.specs.Network.{memberCount}
+use Rattle.game.specs.Tree.{treeOf, network}
+use Rattle.answers.specs.Answer.{accepted}
+use Rattle.answers.specs.Checks.{treeCheck, lengthCheck}
+use Rattle.answers.specs.ByArc.{byArcAnswer, byArcList}
+use Rattle.answers.proofs.Accepted.{tree-accepted, length-accepted}
+use Rattle.answers.proofs.Limits.{members-bound}
+use Rattle.checks.specs.Checked.{checkOf}
+use Rattle.checks.proofs.Opened.{opened, turned-away}
+use Rattle.tree.proofs.Bounds.{sound}
+use Rattle.tree.proofs.Lent.{sized}
+use borrow.Author.Needs.{needs}
+use Rattle.engine.proofs.divide.split_by_arc.Statement.{statement}
+use Rattle.engine.proofs.divide.split_by_arc.Tie as tie
+
+returns : tie.Need-returns
+unfolding byArcAnswer byArcList
+returns c =
+    let away = turned-away (c .before .before .before .check-tree .ensures) (c .before .enum-told2 .given .1) (c .refusal-of .ensures) in (rw away, rw away)
+
+accepted-tree : (c : tie.After-enum-told) → treeCheck (treeOf (now (c .before .before .before .before .before .before .args .parents)) (now (c .before .before .before .before .before .before .args .costs))) ≡ accepted
+accepted-tree c = opened (c .before .before .check-tree .ensures) (c .enum-told .given .1)
+
+count-members-requires : tie.Need-count-members-requires
+count-members-requires c κs = sound _ (tree-accepted _ (accepted-tree c))
+
+-- the output check asks for as many places as there are members
+output : (c : tie.After-check-output) → checkOf (c .check-output .result) ≡ lengthCheck (memberCount (network (treeOf (now (c .before .before .before .before .before .before .before .before .args .parents)) (now (c .before .before .before .before .before .before .before .before .args .costs))))) (length (now (c .before .before .before .before .before .before .before .before .args .out)))
+output c = c .check-output .ensures ∙ ap (λ (n : ℕ). lengthCheck n (length (now (c .before .before .before .before .before .before .before .before .args .out)))) (c .before .count-members .ensures)
+
+returns-2 : tie.Need-returns-2
+unfolding byArcAnswer byArcList
+returns-2 c =
+    let tree = accepted-tree (c .before .before .before .before .before) in
+    let away = turned-away (output (c .before .before .before)) (c .before .enum-told4 .given .1) (c .refusal-of2 .ensures) in (rw (tree, away), rw (tree, away))
+
+accepted-output : (c : tie.After-enum-told3) → lengthCheck (memberCount (network (treeOf (now (c .before .before .before .before .before .before .before .before .before .before .args .parents)) (now (c .before .before .before .before .before .before .before .before .before .before .args .costs))))) (length (now (c .before .before .before .before .before .before .before .before .before .before .args .out))) ≡ accepted
+accepted-output c = opened (output (c .before .before)) (c .enum-told3 .given .1)
+
+few-members : (c : tie.After-enum-told3) → c .before .before .before .count-members .result ≤ 1023
+few-members c = omega (arith, c .before .before .before .count-members .ensures, members-bound (treeOf (now (c .before .before .before .before .before .before .before .before .before .before .args .parents)) (now (c .before .before .before .before .before .before .before .before .before .before .args .costs))) (tree-accepted (treeOf (now (c .before .before .before .before .before .before .before .before .before .before .args .parents)) (now (c .before .before .before .before .before .before .before .before .before .before .args .costs))) (accepted-tree (c .before .before .before .before))))
+
+part-vertices-end : tie.Need-part-vertices-end
+part-vertices-end c = omega (arith, few-members c)
+
+divide-requires : tie.Need-divide-requires
+divide-requires c κs = (accepted-tree (c .before .before .before .before .before .before), (sized _ (few-members (c .before .before)) ∙ c .before .before .before .before .before .count-members .ensures, length-accepted _ _ (accepted-output (c .before .before))))
+
+returns-3 : tie.Need-returns-3
+unfolding byArcAnswer byArcList
+returns-3 c =
+    let tree = accepted-tree (c .before .before .before .before .before .before .before .before .before .before) in
+    let list = accepted-output (c .before .before .before .before .before .before) in (rw (tree, list, c .before .before .before .before .before .before .before .before .before .count-members .ensures), rw (tree, list) (c .before .before .before .divide .ensures))
+
+pub split-by-arc-spec : {M : Type 1} → statement M
+split-by-arc-spec =
+    tie.close
+    (tie.spec
+    (λ c κs. search needs)
+    (λ c. search needs)
+    (λ c. search needs)
+    (λ c κs. search needs)
+    returns
+    count-members-requires
+    (λ c κs. search needs)
+    (λ c. search needs)
+    (λ c. search needs)
+    (λ c κs. search needs)
+    returns-2
+    (λ c. search needs)
+    (λ c. search needs)
+    part-vertices-end
+    divide-requires
+    (λ c. search needs)
+    returns-3)

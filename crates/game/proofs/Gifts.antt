@@ -1,0 +1,54 @@
+-- The by-arc rule's gifts divide an arc's cost evenly.
+use Prim.Native.Nat.{ℕ, zero, suc, pred, _/_, _%_, _<_, min}
+use mathlib.Core.Path.{_≡_, _∙_}
+use mathlib.Core.Bool.{Bool, true, false}
+use mathlib.Core.Logic.{⊎-elim}
+use native.Mathlib.Nat.{div-add-mod, mod-lt}
+use native.Mathlib.Decide.{decLt}
+use native.Mathlib.Omega.{arith}
+use borrow.Author.Tests.{lt-ltb, le-ltb}
+use lib.Dec.{ltb}
+use Rattle.game.specs.Sum.{pick, sum}
+use Rattle.game.specs.Network.{Network, memberCount}
+use Rattle.game.specs.Group.{size}
+use Rattle.game.specs.Core.{users}
+use Rattle.game.specs.ByArc.{userCount, gift}
+use Rattle.game.specs.Shapley.{Even}
+use Rattle.game.proofs.Bools.{both, pick-yes, pick-no, pick-add, pick-le}
+use Rattle.game.proofs.Sums.{sum-cong, sum-add, sum-count}
+use Rattle.game.proofs.Sizes.{size-more, size-none}
+
+-- one unit to each of the r lowest numbers of a group
+lowest-sum : (n r : ℕ) (a : ℕ → Bool) → sum n (λ i. pick (a (pred i)) (pick (ltb (size (pred i) a) r) 1)) ≡ min (size n a) r
+lowest-sum zero r a = omega (arith, size-none 0 a (λ i l. absurd (omega arith)))
+lowest-sum (suc n) r a =
+    ⊎-elim
+    (λ (e : a n ≡ true).
+    elim (decLt (size n a) r) [
+      | yes l ↦ omega (arith, lowest-sum n r a, size-more n a, pick-yes 1 e, pick-yes (pick (ltb (size n a) r) 1) e, pick-yes 1 (lt-ltb (size n a) r l))
+      | no l ↦ omega (arith, lowest-sum n r a, size-more n a, pick-yes (pick (ltb (size n a) r) 1) e, pick-no 1 (le-ltb (size n a) r (omega arith)))
+    ])
+    (λ (e : a n ≡ false). omega (arith, lowest-sum n r a, size-more n a, pick-no 1 e, pick-no (pick (ltb (size n a) r) 1) e))
+    (both (a n))
+
+pub gift-even : (n : Network) (k : ℕ) → 0 < userCount n k → Even n k (gift n k)
+unfolding size
+gift-even n k h =
+    record {
+      others = λ j e. rw e;
+      least = λ j e. rw e (omega arith);
+      most = λ j e. rw e (omega (arith, pick-le (more j) 1));
+      all = together;
+    }
+  where
+    q : ℕ
+    q = n .cost k / userCount n k
+
+    more : ℕ → Bool
+    more j = ltb (size j (users n k)) (n .cost k % userCount n k)
+
+    together : sum (memberCount n) (λ i. gift n k (pred i)) ≡ n .cost k
+    together =
+        sum-cong (memberCount n) (λ i l. pick-add (users n k (pred i)) q (pick (more (pred i)) 1))
+        ∙ sum-add (memberCount n) (λ i. pick (users n k (pred i)) q) (λ i. pick (users n k (pred i)) (pick (more (pred i)) 1))
+        ∙ omega (arith, sum-count (memberCount n) q (λ i. users n k (pred i)), lowest-sum (memberCount n) (n .cost k % userCount n k) (users n k), div-add-mod (n .cost k) (userCount n k), mod-lt (n .cost k) h)
