@@ -31,6 +31,10 @@ use Rattle.answers.proofs.InRange.{in-range}
 use Rattle.answers.proofs.CoreLaws.{members-end}
 use Rattle.answers.proofs.AuditLaws.{audit-laws}
 
+-- every arc of an accepted tree has a user
+pub some-users : (t : Tree) → Accepted t → (k : ℕ) → In (network t .arcs) k → 0 < userCount (network t) k
+some-users t acc k i = used-count (network t) k (every-arc-used (network t) (acc .rooted) (tree-ends t) k i)
+
 module _ (t : Tree) (out : List ℕ) (ok : membersCheck t out ≡ accepted) where
   tree-ok : treeCheck t ≡ accepted
   tree-ok = first-accepted (treeCheck t) (outputCheck (memberCount (network t)) out) ok
@@ -42,11 +46,8 @@ module _ (t : Tree) (out : List ℕ) (ok : membersCheck t out ≡ accepted) wher
   unfolding byArcList
   list = ap (λ (c : Check). written c out (byArc (network t))) ok
 
-  some-users : (k : ℕ) → In (network t .arcs) k → 0 < userCount (network t) k
-  some-users k i = used-count (network t) k (every-arc-used (network t) (acc .rooted) (tree-ends t) k i)
-
   gifts : (k : ℕ) → In (network t .arcs) k → Even (network t) k (gift (network t) k)
-  gifts k i = gift-even (network t) k (some-users k i)
+  gifts k i = gift-even (network t) k (some-users t acc k i)
 
   core : Core (network t) (map pos (byArcList t out))
   core =
@@ -80,10 +81,11 @@ module _ (t : Tree) (out : List ℕ) (ok : membersCheck t out ≡ accepted) wher
 pub by-arc-laws : ByArcStatement
 by-arc-laws t out ok =
     record {
+      one-a-member = ap length (list t out ok) ∙ by-arc-length (network t);
       in-core = core t out ok;
       passes = audit-laws t (map pos (byArcList t out)) (proposed t out ok) .passes .1 (core t out ok .adds-up, core t out ok .no-group-more);
       near = λ j h.
           rw (list t out ok, by-arc-at (network t) j h) (even-near (network t) j h (acc t out ok .rooted) (gift (network t)) (gifts t out ok));
       theorem-1 = shapley-by-arcs (network t);
-      whole-part = λ k a. whole-part (network t) k (some-users t out ok k (record { low = a .first; high = a .last }));
+      whole-part = λ k a. whole-part (network t) k (some-users t (acc t out ok) k (record { low = a .first; high = a .last }));
     }

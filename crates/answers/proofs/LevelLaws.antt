@@ -2,10 +2,10 @@
 use Prim.Native.Nat.{ℕ, zero, suc, _*_, _-_, _≤_, _<_}
 use mathlib.Core.Path.{_≡_, refl, sym, ap, _∙_, subst}
 use mathlib.Core.Bool.{Bool, true, false}
-use mathlib.Core.Logic.{⊎-elim}
+use mathlib.Core.Logic.{⊎-elim, inl, inr}
 use mathlib.Core.List.{List, map}
 use native.Mathlib.Omega.{arith}
-use lib.ListN.{getD, List·getD-map}
+use lib.ListN.{getD, List·getD-map, length-map}
 use lib.IntN.{ℤ, pos, negsuc, _*ℤ_}
 use lib.Signed.{_≤ℤ_}
 use Rattle.game.specs.Sum.{pick}
@@ -23,7 +23,7 @@ use Rattle.game.proofs.Numbering.{vertex-of}
 use Rattle.game.proofs.Core.{users-sum, core-to-bound, bound-to-need, need-to-core, core-nonneg, enough}
 use Rattle.game.proofs.Bump.{squares, below-cong}
 use Rattle.game.proofs.LevelRule.{Reached, Admits, reached-total}
-use Rattle.game.proofs.LevelList.{view, view-off, level-stands}
+use Rattle.game.proofs.LevelList.{view, view-off, Stands, level-stands}
 use Rattle.answers.specs.Answer.{Check, accepted, _then_}
 use Rattle.answers.specs.Checks.{treeCheck, outputCheck}
 use Rattle.answers.specs.Level.{LevelAnswer, split, refusal, capSum, shortArc, splitOr9, capsCheck, levelOr, levelCheck, levelAnswer, levelList, listAfter}
@@ -92,9 +92,12 @@ module _ (t : Tree) (ok : treeCheck t ≡ accepted) (caps : List ℕ) where
     given : List ℕ
     given = level (network t) caps (network t .cost)
 
-    reached : Reached (network t) (view (network t) caps) (network t .cost) 0 0 (view (network t) given)
+    stands : Stands (network t) caps (network t .cost) 0 0 given
     unfolding given
-    reached = level-stands (network t) rooted caps (network t .cost) (none-short (network t) caps (network t .arcs) none) .reached
+    stands = level-stands (network t) rooted caps (network t .cost) (none-short (network t) caps (network t .arcs) none)
+
+    reached : Reached (network t) (view (network t) caps) (network t .cost) 0 0 (view (network t) given)
+    reached = stands .reached
 
     shares-given : (j : ℕ) → share (map pos given) j ≡ pos (getD given j 0)
     shares-given j = List·getD-map pos given j 0
@@ -153,7 +156,7 @@ module _ (t : Tree) (ok : treeCheck t ≡ accepted) (caps : List ℕ) where
         ))
 
     fits-given : Fits t caps (map pos given)
-    fits-given = record { in-core = need-to-core (network t) rooted (members-end t) (map pos given) by-need; keeps-caps = keeps-caps }
+    fits-given = record { one-a-member = length-map given pos ∙ stands .sized; in-core = need-to-core (network t) rooted (members-end t) (map pos given) by-need; keeps-caps = keeps-caps }
 
     least-given : (shares : List ℤ) → Fits t caps shares → squareSum t (map pos given) ≤ℤ squareSum t shares
     least-given shares fits =
@@ -191,7 +194,7 @@ module _ (t : Tree) (caps out : List ℕ) (ok : levelCheck t caps out ≡ accept
         refused-at = λ place shortfall e. absurd (not-both (sym is-split ∙ e));
         given-fits = λ e. subst (λ (l : List ℕ). Fits t caps (map pos l)) (sym list) (fits-given t tree-ok caps none);
         least-squares = λ e. subst (λ (l : List ℕ). (shares : List ℤ) → Fits t caps shares → squareSum t (map pos l) ≤ℤ squareSum t shares) (sym list) (least-given t tree-ok caps none);
-        one-of-two = λ no. absurd (no is-split);
+        one-of-two = inl is-split;
       }
     where
       is-split : levelAnswer t caps out ≡ split (memberCount (network t))
@@ -209,7 +212,7 @@ module _ (t : Tree) (caps out : List ℕ) (ok : levelCheck t caps out ≡ accept
             let same = same-refusal (sym is-refusal ∙ e) in subst (λ (p : ℕ). ShortAt t caps p shortfall) (same .0) (subst (ShortAt t caps (suc a)) (same .1) at);
         given-fits = λ e. absurd (not-both (sym e ∙ is-refusal));
         least-squares = λ e. absurd (not-both (sym e ∙ is-refusal));
-        one-of-two = λ no. (suc a, lacking, is-refusal);
+        one-of-two = inr (suc a, lacking, is-refusal);
       }
     where
       lacking : ℕ

@@ -2,7 +2,7 @@
 use Prim.Native.Nat.{ℕ, _*_, _/_, _<_}
 use mathlib.Core.Path.{_≡_}
 use mathlib.Core.List.{List, map}
-use lib.ListN.{getD}
+use lib.ListN.{length, getD}
 use lib.IntN.{pos}
 use Rattle.game.specs.Sum.{pick, sum}
 use Rattle.game.specs.Network.{memberCount}
@@ -17,22 +17,23 @@ use Rattle.answers.specs.Audit.{pass, auditAnswer}
 use Rattle.answers.specs.ByArc.{byArcList}
 
 -- n!, where n is the number of members
-abbrev pub orders : Tree → ℕ
-orders t = factorial (memberCount (network t))
+abbrev pub membersFactorial : Tree → ℕ
+membersFactorial t = factorial (memberCount (network t))
 
 pub record ByArcLaws (t : Tree) (out : List ℕ) : Type 0 where
+  pub one-a-member : length (byArcList t out) ≡ memberCount (network t)
   -- the shares add up to the whole cost, and no group pays more than its own network costs
   pub in-core : Core (network t) (map pos (byArcList t out))
   -- so the split passes the audit
   pub passes : auditAnswer t (map pos (byArcList t out)) ≡ value pass
   -- n! times a share is less than n! times its path's number of arcs away from n! times the Shapley value
   pub near : (j : ℕ) → j < memberCount (network t)
-      → Within (orders t * pathLength (network t) j) (orders t * getD (byArcList t out) j 0) (shapley (network t) j)
+      → Within (membersFactorial t * pathLength (network t) j) (membersFactorial t * getD (byArcList t out) j 0) (shapley (network t) j)
   -- Theorem 1 of the source: the Shapley value divides each arc's cost equally among its users
   pub theorem-1 : (j : ℕ) → j < memberCount (network t)
-      → shapley (network t) j ≡ sum (network t .arcs) (λ k. pick (users (network t) k j) (network t .cost k * (orders t / userCount (network t) k)))
+      → shapley (network t) j ≡ sum (network t .arcs) (λ k. pick (users (network t) k j) (network t .cost k * (membersFactorial t / userCount (network t) k)))
   -- n! divided by the number of an arc's users is whole
-  pub whole-part : (k : ℕ) → ArcOf t k → userCount (network t) k * (orders t / userCount (network t) k) ≡ orders t
+  pub whole-part : (k : ℕ) → ArcOf t k → userCount (network t) k * (membersFactorial t / userCount (network t) k) ≡ membersFactorial t
 
 abbrev pub ByArcStatement : Type 0
 ByArcStatement = (t : Tree) (out : List ℕ) → membersCheck t out ≡ accepted → ByArcLaws t out

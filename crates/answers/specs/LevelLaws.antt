@@ -2,9 +2,9 @@
 -- sign; a group is any set of member numbers.
 use Prim.Native.Nat.{ℕ, _+_, _≤_, _<_}
 use mathlib.Core.Path.{_≡_}
-use mathlib.Core.Logic.{_↔_}
+use mathlib.Core.Logic.{_↔_, _⊎_}
 use mathlib.Core.List.{List, map}
-use lib.ListN.{getD}
+use lib.ListN.{length, getD}
 use lib.IntN.{ℤ, pos, _*ℤ_}
 use lib.Signed.{_≤ℤ_}
 use Rattle.game.specs.Network.{memberCount, need}
@@ -15,8 +15,9 @@ use Rattle.answers.specs.Answer.{accepted}
 use Rattle.answers.specs.Laws.{ArcOf}
 use Rattle.answers.specs.Level.{split, refusal, capSum, levelCheck, levelAnswer, levelList}
 
--- the list is in the core and keeps every cap
+-- the list has one share a member, is in the core and keeps every cap
 pub record Fits (t : Tree) (caps : List ℕ) (shares : List ℤ) : Type 0 where
+  pub one-a-member : length shares ≡ memberCount (network t)
   pub in-core : Core (network t) shares
   pub keeps-caps : (j : ℕ) → j < memberCount (network t) → share shares j ≤ℤ pos (getD caps j 0)
 
@@ -40,7 +41,7 @@ pub record LevelLaws (t : Tree) (caps out : List ℕ) : Type 0 where
   pub least-squares : levelAnswer t caps out ≡ split (memberCount (network t)) → (shares : List ℤ) → Fits t caps shares
       → squareSum t (map pos (levelList t caps out)) ≤ℤ squareSum t shares
   -- there is no third answer
-  pub one-of-two : (levelAnswer t caps out ≡ split (memberCount (network t)) → ⊥) → (place : ℕ) × (shortfall : ℕ) × (levelAnswer t caps out ≡ refusal 9 place shortfall)
+  pub one-of-two : (levelAnswer t caps out ≡ split (memberCount (network t))) ⊎ ((place : ℕ) × (shortfall : ℕ) × (levelAnswer t caps out ≡ refusal 9 place shortfall))
 
 abbrev pub Demand3 : Type 0
 Demand3 = (t : Tree) (caps out : List ℕ) → levelCheck t caps out ≡ accepted → LevelLaws t caps out

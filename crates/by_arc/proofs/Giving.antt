@@ -2,6 +2,7 @@
 use Prim.Native.Nat.{ℕ, zero, suc, pred, _-_, _+_, _*_, _/_, _%_, _≤_, _<_}
 use mathlib.Core.Path.{_≡_, refl, sym, ap, _∙_, subst}
 use mathlib.Core.List.{List, []}
+use native.Mathlib.Nat.{div-le-self}
 use native.Mathlib.Omega.{arith}
 use lib.ListN.{length, getD, replicate, length-replicate}
 use lib.Dec.{ltb}
@@ -16,16 +17,16 @@ use Rattle.game.proofs.Sums.{In}
 use Rattle.game.proofs.Sizes.{size-le, size-none}
 use Rattle.game.proofs.Lists.{list-is}
 use Rattle.game.proofs.Encoding.{zeros}
-use Rattle.game.proofs.DeadEnds.{tree-ends, every-arc-used}
-use Rattle.game.proofs.ByArc.{used-count, give-length, give-at}
+use Rattle.game.proofs.ByArc.{give-length, give-at}
 use Rattle.answers.specs.Checks.{mostCost}
 use Rattle.answers.proofs.Accepted.{Accepted}
+use Rattle.answers.proofs.ByArcLaws.{some-users}
 use Rattle.tree.proofs.Bounds.{sound}
 use Rattle.users.specs.Users.{usersOf}
 use Rattle.users.proofs.Passing.{passing-size, passing-below}
 use Rattle.users.proofs.UserPass.{vertices-few, vertices-count}
 use Rattle.by_arc.specs.Handed.{handed, Small, Takers}
-use Rattle.by_arc.proofs.Handing.{part-most, served}
+use Rattle.by_arc.proofs.Handing.{served}
 
 -- an arc's entry stands one place below its number
 pub entry-of : (l : List ℕ) (k : ℕ) → 0 < k → getD l (k - 1) 0 ≡ ofArc l k
@@ -40,10 +41,6 @@ module _ (t : Tree) where
     pub to-come : byArcDown (network t) k shares ≡ byArc (network t)
 
 module _ (t : Tree) (ok : Accepted t) where
-  -- every arc has a user
-  pub some-users : (k : ℕ) → In (network t .arcs) k → 0 < userCount (network t) k
-  some-users k i = used-count (network t) k (every-arc-used (network t) (ok .rooted) (tree-ends t) k i)
-
   -- one arc, over the list of its users
   module _ (vertices shares : List ℕ) (k : ℕ) (us : List ℕ) (are : vertices ≡ members (network (treeOf (t .parents) [])))
       (sized : length shares ≡ length vertices) (i : In (length (t .parents)) k) (list : us ≡ usersOf (network (treeOf (t .parents) [])) k) where
@@ -56,7 +53,7 @@ module _ (t : Tree) (ok : Accepted t) where
     pub takers : Small shares → Takers us shares
     takers small =
         record {
-          some = omega (arith, count, some-users k i);
+          some = omega (arith, count, some-users t ok k i);
           few = omega (arith, count, size-le (memberCount (network t)) (users (network t) k), vertices-count (t .parents) vertices are, vertices-few (t .parents) vertices are (sound t ok));
           numbered = λ j h.
               rw list
@@ -101,7 +98,7 @@ module _ (t : Tree) (ok : Accepted t) where
         arith,
         pick-le (users n k j) (q + one),
         pick-le (ltb (size j (users n k)) (n .cost k % userCount n k)) 1,
-        part-most (n .cost k) (userCount n k) (some-users k i),
+        div-le-self (n .cost k) (userCount n k),
         ok .limited k,
       )
 

@@ -1,10 +1,9 @@
 -- One arc's cost handed to its users one after the other, and that this is what the rule gives.
-use Prim.Native.Nat.{ℕ, zero, suc, _+_, _*_, _/_, _≤_, _<_}
+use Prim.Native.Nat.{ℕ, zero, suc, _+_, _*_, _≤_, _<_}
 use mathlib.Core.Path.{_≡_, refl, sym, ap, ap₂, _∙_, subst}
 use mathlib.Core.Bool.{Bool, true, false}
 use mathlib.Core.Logic.{⊎-elim}
 use mathlib.Core.List.{List}
-use native.Mathlib.Nat.{div-add-mod}
 use native.Mathlib.Decide.{ℕ-discrete}
 use native.Mathlib.Numerals.{add-one}
 use native.Mathlib.Omega.{arith}
@@ -18,11 +17,6 @@ use Rattle.game.proofs.Sizes.{size-more}
 use Rattle.users.specs.Users.{passing}
 use Rattle.users.proofs.Passing.{passing-yes, passing-no}
 use Rattle.by_arc.specs.Handed.{handed, Small, Takers}
-
--- an equal part is at most the whole
-pub part-most : (c k : ℕ) → 0 < k → c / k ≤ c
-part-most c zero h = absurd (omega arith)
-part-most c (suc k) h = omega (arith, div-add-mod c (suc k))
 
 module _ (us s₀ : List ℕ) (each more : ℕ) where
   -- the first i users have been served

@@ -11,7 +11,8 @@ use lib.Dec.{ltb}
 use Rattle.game.proofs.Bools.{both}
 use Rattle.answers.specs.Checks.{mostShare}
 use Rattle.users.specs.Users.{total}
-use Rattle.fill.specs.Fill.{part, filled, Highest}
+use Rattle.game.specs.Raise.{part}
+use Rattle.fill.specs.Fill.{filled, Highest}
 use Rattle.fill.proofs.Turns.{took-most}
 
 module _ (us caps shares : List ℕ) (amount : ℕ) where
@@ -32,9 +33,6 @@ module _ (us caps shares : List ℕ) (amount : ℕ) where
   between-start = record { order = omega arith; limit = omega arith; enough = omega (arith, none-taken us); too-high = λ h. absurd (omega arith) }
 
   module _ (low high middle taken : ℕ) (b : Between low high) (wide : 1 < high - low) (m : middle ≡ low + (high - low) / 2) (t : taken ≡ filled us caps shares middle) where
-    pub middle-within : middle ≤ mostShare
-    middle-within = omega (arith, b .limit)
-
     -- the next turn's ends, which are nearer to each other
     pub between-on : (low′ high′ : ℕ) → low′ ≡ cond (ltb amount taken) low middle → high′ ≡ cond (ltb amount taken) middle high
         → Between low′ high′ × (high′ - low′ < high - low)

@@ -4,8 +4,9 @@ use mathlib.Core.Path.{_≡_, refl, sym, ap, _∙_, subst}
 use mathlib.Core.List.{List}
 use native.Mathlib.Decide.{decLt}
 use native.Mathlib.Nat.{zero-add}
+use native.Mathlib.Numerals.{add-one}
 use native.Mathlib.Omega.{arith}
-use borrow.Author.Tests.{lt-ltb, le-ltb}
+use borrow.Author.Tests.{le-ltb}
 use lib.ListN.{length, getD}
 use lib.Seq.{ext-getD}
 use lib.Dec.{ltb}
@@ -13,14 +14,14 @@ use Rattle.game.specs.Sum.{pick, sum}
 use Rattle.game.specs.Network.{Network, memberCount}
 use Rattle.game.specs.Core.{users}
 use Rattle.game.specs.Level.{units}
-use Rattle.game.specs.Raise.{fill}
-use Rattle.game.proofs.Bools.{pick-both-le, pick-yes, pick-no}
+use Rattle.game.specs.Raise.{fill, part}
+use Rattle.game.proofs.Bools.{pick-both-le, pick-no}
 use Rattle.game.proofs.Sums.{sum-cong, sum-mono}
-use Rattle.game.proofs.Raise.{Raised, units-raise}
+use Rattle.game.proofs.Raise.{Raised, fill-next-level, units-raise}
 use Rattle.answers.specs.Checks.{mostShare}
 use Rattle.users.specs.Users.{usersOf}
 use Rattle.users.proofs.Passing.{passing-sum}
-use Rattle.fill.specs.Fill.{part, filled, Highest, raised}
+use Rattle.fill.specs.Fill.{filled, Highest, raised}
 use Rattle.fill.proofs.Raising.{one-level, takes, Outcome, outcome}
 
 module _ (n : Network) (caps : List ℕ) (k : ℕ) (l : List ℕ) where
@@ -37,15 +38,9 @@ module _ (n : Network) (caps : List ℕ) (k : ℕ) (l : List ℕ) where
   nobody level j = omega (arith, pick-no 1 (le-ltb j 0 (omega arith)))
 
   -- over the users' list
-  pub filled-fill : (level : ℕ) → filled (usersOf n k) caps l level ≡ fill n caps k l level 0
+  filled-fill : (level : ℕ) → filled (usersOf n k) caps l level ≡ fill n caps k l level 0
   filled-fill level =
       passing-sum (users n k) (part caps l level) (memberCount n) ∙ same-levels (λ j. level) (λ j. level + pick (ltb j 0) 1) (λ j h. sym (nobody level j))
-
-  -- everybody one above a level
-  fill-all : (level : ℕ) → fill n caps k l level (memberCount n) ≡ fill n caps k l (level + 1) 0
-  fill-all level =
-      same-levels (λ j. level + pick (ltb j (memberCount n)) 1) (λ j. level + 1 + pick (ltb j 0) 1)
-      (λ j h. omega (arith, pick-yes 1 (lt-ltb j (memberCount n) h), nobody (level + 1) j))
 
   fill-next : (level : ℕ) → fill n caps k l level 0 ≤ fill n caps k l (level + 1) 0
   fill-next level =
@@ -78,7 +73,7 @@ module _ (n : Network) (caps : List ℕ) (k : ℕ) (l : List ℕ) where
     none-over =
         elim (decLt 0 (out .left)) [
           | yes some ↦
-              let all = ap (fill n caps k l level) (out .used-up some) ∙ ap (fill n caps k l level) (zero-add (memberCount n)) ∙ fill-all level in
+              let all = ap (fill n caps k l level) (out .used-up some) ∙ ap (fill n caps k l level) (zero-add (memberCount n)) ∙ fill-next-level n caps k l level ∙ ap (λ (a : ℕ). fill n caps k l a 0) (sym (add-one level)) in
               elim (decLt level mostShare) [
                 | yes below ↦ omega (arith, balance, all, highest .no-higher below, filled-fill (level + 1))
                 | no top ↦

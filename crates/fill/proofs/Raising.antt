@@ -11,12 +11,12 @@ use lib.ListN.{length, getD, set, length-set}
 use lib.Seq.{getD-set-same, getD-set-other}
 use lib.Dec.{ltb}
 use Rattle.game.specs.Sum.{pick}
-use Rattle.game.specs.Raise.{smaller}
+use Rattle.game.specs.Raise.{smaller, took, part}
 use Rattle.game.proofs.Bools.{both, pick-yes, pick-no}
 use Rattle.game.proofs.Raise.{smaller-is}
 use Rattle.users.specs.Users.{passing, total}
 use Rattle.users.proofs.Passing.{passing-yes, passing-no}
-use Rattle.fill.specs.Fill.{took, part, aim, restAfter, raiseOne, raised}
+use Rattle.fill.specs.Fill.{aim, restAfter, raiseOne, raised}
 
 -- the next level takes at most one unit more
 next-smaller : (cap level : ℕ) → (smaller cap level ≤ smaller cap (level + 1)) × (smaller cap (level + 1) ≤ smaller cap level + 1)

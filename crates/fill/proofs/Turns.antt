@@ -8,7 +8,8 @@ use lib.ListN.{length, getD, set, drop, drop-of-length-le, length-set}
 use lib.Seq.{drop-cons}
 use Rattle.game.proofs.Raise.{smaller-is}
 use Rattle.users.specs.Users.{total}
-use Rattle.fill.specs.Fill.{took, part, Numbers, aim, restAfter, raiseOne, raised}
+use Rattle.game.specs.Raise.{took, part}
+use Rattle.fill.specs.Fill.{Numbers, aim, restAfter, raiseOne, raised}
 use Rattle.fill.proofs.Raising.{rest-enough}
 
 -- nobody takes more than the level
@@ -29,7 +30,7 @@ module _ (us : List ℕ) (i : ℕ) where
     unfolding total
     total-turn g = rw (add-one i, drop-cons us i 0 h)
 
-    pub raised-turn : (caps : List ℕ) (level rest : ℕ) (s : List ℕ)
+    raised-turn : (caps : List ℕ) (level rest : ℕ) (s : List ℕ)
         → raised caps level rest (drop i us) s ≡ raised caps level (restAfter caps s level rest (getD us i 0)) (drop (i + 1) us) (raiseOne caps s level rest (getD us i 0))
     unfolding raised
     raised-turn caps level rest s = rw (add-one i, drop-cons us i 0 h)

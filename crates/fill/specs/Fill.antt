@@ -5,17 +5,9 @@ use mathlib.Core.List.{List, [], _∷_}
 use lib.ListN.{length, getD, set}
 use lib.Dec.{ltb}
 use Rattle.game.specs.Sum.{pick}
-use Rattle.game.specs.Raise.{smaller}
+use Rattle.game.specs.Raise.{part}
 use Rattle.answers.specs.Checks.{mostShare}
 use Rattle.users.specs.Users.{total}
-
--- what a user takes on the way to a level: nobody rises above its cap, and no share falls
-abbrev pub took : ℕ → ℕ → ℕ → ℕ
-took cap share level = smaller cap level - share
-
--- the same of member j
-abbrev pub part : List ℕ → List ℕ → ℕ → ℕ → ℕ
-part caps shares level j = took (getD caps j 0) (getD shares j 0) level
 
 -- what an arc's users take together
 abbrev pub filled : List ℕ → List ℕ → List ℕ → ℕ → ℕ

@@ -33,7 +33,7 @@ fn by_fill(taken: u64, amount: u64, over: u64, within: u64) -> u64
     if amount < taken { over } else { within }
 }
 
-// The amount is enough for `low`; it is not enough for `high`, or `high` is above the limit.
+// The greatest level up to the limit that the amount is enough for. It is enough for `low`, and not for `high` unless that is above the limit.
 pub fn find_level(users: &[u16], caps: &[u64], shares: &[u64], amount: u64) -> u64
     requires { ⌜ Numbers (now users) (now caps) (now shares) ⌝ }
     ensures { λ r. ⌜ Highest (now (users .entry)) (now (caps .entry)) (now (shares .entry)) amount r ⌝ }

@@ -9,11 +9,11 @@ ghost use lib.ListN.{length};
 ghost use Rattle.game.specs.Network.{members};
 ghost use Rattle.game.specs.Tree.{treeOf, network};
 ghost use Rattle.game.specs.Level.{units};
-ghost use Rattle.game.specs.Raise.{fill};
+ghost use Rattle.game.specs.Raise.{took, fill};
 ghost use Rattle.answers.specs.Checks.{mostShare};
 ghost use Rattle.answers.specs.Level.{Capped};
 ghost use Rattle.tree.specs.Passes.{Sound};
-ghost use Rattle.fill.specs.Fill.{took, Numbers, Shared};
+ghost use Rattle.fill.specs.Fill.{Numbers, Shared};
 
 // What a user takes on the way to a level.
 fn part_of(cap: u64, share: u64, level: u64) -> u64

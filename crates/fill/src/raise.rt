@@ -17,10 +17,10 @@ pub fn raise(users: &[u16], caps: &[u64], shares: &mut [u64], level: u64, rest: 
         let u = users[i] as usize;
         let cap = caps[u];
         let share = shares[u];
-        let more = part_of(cap, share, level + numbers::one_if_below(0, left));
-        let even = part_of(cap, share, level);
-        shares[u] = share + more;
-        left -= more - even;
+        let to_aim = part_of(cap, share, level + numbers::one_if_below(0, left));
+        let to_level = part_of(cap, share, level);
+        shares[u] = share + to_aim;
+        left -= to_aim - to_level;
         i += 1;
     }
 }

@@ -1,4 +1,4 @@
--- Any division that gives each arc's cost to its users alone is in the core.
+-- A division that gives each arc's cost evenly to its users meets every need and adds up.
 use Prim.Native.Nat.{ℕ, pred, _≤_, _<_}
 use mathlib.Core.Path.{_≡_, refl, sym, ap, _∙_}
 use mathlib.Core.Bool.{Bool, true, false}

@@ -98,7 +98,7 @@ pub record Stands (n : Network) (caps : List ℕ) (amount : ℕ → ℕ) (k t : 
   pub reached : Reached n (view n caps) amount k t (view n l)
 
 module _ (n : Network) (rooted : Rooted n) (caps : List ℕ) (amount : ℕ → ℕ)
-    (enough : (k : ℕ) → In (n .arcs) k → lower n (view n caps) amount k ≤ sumBelow n (view n caps) k) where
+    (enough : (k : ℕ) → In (n .arcs) k → lower n amount k ≤ sumBelow n (view n caps) k) where
   module _ (k t : ℕ) (i : In (n .arcs) k) (h : t < amount k) (l : List ℕ) (s : Stands n caps amount k t l) where
     -- a user below its cap may take a unit
     may : (v : ℕ) → In (n .arcs) v → n .member v ≡ true → atOrBelow n k v ≡ true → view n l v < view n caps v → mayTake n caps k l (number n v) ≡ true

@@ -60,7 +60,7 @@ module _ (n : Network) (caps : List ℕ) (most : ℕ) (limited : (j : ℕ) → g
       (λ (m : n .member v ≡ false). rw (view-off n caps v i m, pick-zero (atOrBelow n k v)) (omega arith))
       (both (n .member v))
 
-  pub enough-left : Rooted n → (amount : ℕ → ℕ) → ((f : ℕ) → In (n .arcs) f → lower n (view n caps) amount f ≤ sumBelow n (view n caps) f) → In (n .arcs) k → Stands n caps amount k 0 l
+  pub enough-left : Rooted n → (amount : ℕ → ℕ) → ((f : ℕ) → In (n .arcs) f → lower n amount f ≤ sumBelow n (view n caps) f) → In (n .arcs) k → Stands n caps amount k 0 l
       → amount k ≤ fill n caps k l most 0
   unfolding left-of sumBelow
   enough-left rooted amount enough i s =

@@ -17,7 +17,7 @@ use Rattle.game.proofs.Certificate.{OfMembers}
 use Rattle.game.proofs.Bump.{bump, squares, below-bump, squares-bump, below-cong, squares-cong, less-one, bump-less, less-at}
 use Rattle.game.proofs.Descent.{More, has-more}
 
-module _ (n : Network) (cap amount : ℕ → ℕ) where
+module _ (n : Network) (amount : ℕ → ℕ) where
   -- what the arcs at or below k give out
   abbrev pub lower : ℕ → ℕ
   lower k = sumBelow n amount k
@@ -26,22 +26,23 @@ module _ (n : Network) (cap amount : ℕ → ℕ) where
   pub after : ℕ → ℕ → ℕ
   after k v = sum (n .arcs) (λ f. pick (ltb k f) (pick (atOrBelow n v f) (amount f)))
 
+module _ (n : Network) (cap amount : ℕ → ℕ) where
   -- a list that keeps the caps, has what the arcs above k give out below them, and t units of arc k
   pub record Admits (k t : ℕ) (y : ℕ → ℕ) : Type 0 where
     pub off : OfMembers n y
     pub caps : (v : ℕ) → In (n .arcs) v → y v ≤ cap v
-    pub kept : (f : ℕ) → k < f → f ≤ n .arcs → lower f ≤ sumBelow n y f
-    pub enough : In (n .arcs) k → lower k + t ≤ sumBelow n y k + amount k
+    pub kept : (f : ℕ) → k < f → f ≤ n .arcs → lower n amount f ≤ sumBelow n y f
+    pub enough : In (n .arcs) k → lower n amount k + t ≤ sumBelow n y k + amount k
 
   -- the rule's list after the arcs above k and t units of arc k
   pub record Reached (k t : ℕ) (x : ℕ → ℕ) : Type 0 where
     pub off : OfMembers n x
     pub caps : (v : ℕ) → In (n .arcs) v → x v ≤ cap v
-    pub kept : (f : ℕ) → k < f → f ≤ n .arcs → lower f ≤ sumBelow n x f
-    pub given : (v : ℕ) → v ≤ k → sumBelow n x v ≡ after k v + pick (atOrBelow n v k) t
+    pub kept : (f : ℕ) → k < f → f ≤ n .arcs → lower n amount f ≤ sumBelow n x f
+    pub given : (v : ℕ) → v ≤ k → sumBelow n x v ≡ after n amount k v + pick (atOrBelow n v k) t
     pub best : (y : ℕ → ℕ) → Admits k t y → squares (n .arcs) x ≤ squares (n .arcs) y
 
-module _ (n : Network) (rooted : Rooted n) (cap amount : ℕ → ℕ) (cap-off : OfMembers n cap) (caps-enough : (k : ℕ) → In (n .arcs) k → lower n cap amount k ≤ sumBelow n cap k) where
+module _ (n : Network) (rooted : Rooted n) (cap amount : ℕ → ℕ) (cap-off : OfMembers n cap) (caps-enough : (k : ℕ) → In (n .arcs) k → lower n amount k ≤ sumBelow n cap k) where
   -- before the first arc
   pub start : Reached n cap amount (n .arcs) 0 (λ v. 0)
   unfolding after sumBelow
@@ -61,7 +62,7 @@ module _ (n : Network) (rooted : Rooted n) (cap amount : ℕ → ℕ) (cap-off :
       }
 
   -- what arc k and those after it give out below it
-  lower-after : (k : ℕ) → In (n .arcs) k → lower n cap amount k ≡ amount k + after n cap amount k k
+  lower-after : (k : ℕ) → In (n .arcs) k → lower n amount k ≡ amount k + after n amount k k
   unfolding after sumBelow
   lower-after k i =
       sum-cong (n .arcs) (λ f j. parts f)
@@ -91,7 +92,7 @@ module _ (n : Network) (rooted : Rooted n) (cap amount : ℕ → ℕ) (cap-off :
           ]
 
   -- one arc more is finished
-  after-next : (k v : ℕ) → suc k ≤ n .arcs → after n cap amount k v ≡ after n cap amount (suc k) v + pick (atOrBelow n v (suc k)) (amount (suc k))
+  after-next : (k v : ℕ) → suc k ≤ n .arcs → after n amount k v ≡ after n amount (suc k) v + pick (atOrBelow n v (suc k)) (amount (suc k))
   unfolding after
   after-next k v h =
       sum-cong (n .arcs) (λ f j. parts f (pick (atOrBelow n v f) (amount f)))
@@ -113,7 +114,7 @@ module _ (n : Network) (rooted : Rooted n) (cap amount : ℕ → ℕ) (cap-off :
       record {
         off = r .off;
         caps = r .caps;
-        kept = λ f lo hi. elim (ℕ-discrete f (suc k)) [ yes e ↦ subst (λ (u : ℕ). lower n cap amount u ≤ sumBelow n x u) (sym e) done | no e ↦ r .kept f (omega arith) hi ];
+        kept = λ f lo hi. elim (ℕ-discrete f (suc k)) [ yes e ↦ subst (λ (u : ℕ). lower n amount u ≤ sumBelow n x u) (sym e) done | no e ↦ r .kept f (omega arith) hi ];
         given = λ v l. omega (arith, r .given v (omega arith), after-next k v h, pick-zero (atOrBelow n v k));
         best = λ y a.
             r .best y
@@ -125,11 +126,11 @@ module _ (n : Network) (rooted : Rooted n) (cap amount : ℕ → ℕ) (cap-off :
             });
       }
     where
-      done : lower n cap amount (suc k) ≤ sumBelow n x (suc k)
+      done : lower n amount (suc k) ≤ sumBelow n x (suc k)
       done = omega (arith, r .given (suc k) (omega arith), lower-after (suc k) (omega arith), pick-yes (amount (suc k)) (below-self n rooted (suc k)))
 
   -- what the arc's users have so far
-  pub so-far : (k t : ℕ) (x : ℕ → ℕ) → In (n .arcs) k → Reached n cap amount k t x → sumBelow n x k + amount k ≡ lower n cap amount k + t
+  pub so-far : (k t : ℕ) (x : ℕ → ℕ) → In (n .arcs) k → Reached n cap amount k t x → sumBelow n x k + amount k ≡ lower n amount k + t
   so-far k t x i r = omega (arith, r .given k (omega arith), lower-after k i, pick-yes t (below-self n rooted k))
 
   -- at a turn of the rule
@@ -198,7 +199,7 @@ module _ (n : Network) (rooted : Rooted n) (cap amount : ℕ → ℕ) (cap-off :
           less : (f : ℕ) → sumBelow n y f ≡ sumBelow n (less-one y j) f + pick (atOrBelow n f j) 1
           less f = sym (below-cong n (bump (less-one y j) j) y f (λ v l. bump-less y j some v)) ∙ below-bump n (less-one y j) j f (m .within)
 
-          kept-below : (f : ℕ) → k < f → f ≤ n .arcs → atOrBelow n f j ≡ true → lower n cap amount f ≤ sumBelow n (less-one y j) f
+          kept-below : (f : ℕ) → k < f → f ≤ n .arcs → atOrBelow n f j ≡ true → lower n amount f ≤ sumBelow n (less-one y j) f
           kept-below f lo hi b =
               omega (
                 arith,

@@ -199,10 +199,14 @@ module _ (n : Network) (caps : List ℕ) (k : ℕ) (l : List ℕ) where
   up-to level zero h up = up
   up-to level (suc q) h up = one-number level q h (up-to level q (omega arith) up)
 
+  -- everybody one above a level
+  pub fill-next-level : (level : ℕ) → fill n caps k l level (memberCount n) ≡ fill n caps k l (suc level) 0
+  fill-next-level level = sum-cong (memberCount n) (λ i j. next-level level (pred i) (omega (arith, j .low, j .high)))
+
   to-next : (level : ℕ) → Raised level (memberCount n) (units n caps k (fill n caps k l level (memberCount n)) l)
       → Raised (suc level) 0 (units n caps k (fill n caps k l (suc level) 0) l)
   to-next level full =
-      subst (λ (t : ℕ). Raised (suc level) 0 (units n caps k t l)) (sum-cong (memberCount n) (λ i j. next-level level (pred i) (omega (arith, j .low, j .high))))
+      subst (λ (t : ℕ). Raised (suc level) 0 (units n caps k t l)) (fill-next-level level)
       (record { sized = full .sized; raised = λ j i. full .raised j i ∙ ap (λ (a : ℕ). getD l j 0 + a) (next-level level j i) })
 
   -- as many units as a level takes, given out one by one, raise arc k's users to that level

@@ -26,7 +26,7 @@ abbrev pub oneMore : List ℕ → ℕ → List ℕ
 oneMore shares zero = shares
 oneMore shares (suc j) = set shares j (getD shares j 0 + 1)
 
--- one unit of arc k
+-- one unit of arc k; nobody gets it where no user is below its cap
 abbrev pub unit : Network → List ℕ → ℕ → List ℕ → List ℕ
 unit n caps k shares = oneMore shares (firstLeast (mayTake n caps k shares) (λ j. getD shares j 0) (memberCount n))
 

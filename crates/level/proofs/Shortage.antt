@@ -1,11 +1,10 @@
 -- The arcs from the last down, over the lists of needs and cap sums.
 use Prim.Native.Nat.{ℕ, zero, suc, _-_, _≤_, _<_}
-use mathlib.Core.Path.{_≡_, refl, ap, ap₂, _∙_}
+use mathlib.Core.Path.{_≡_, refl, sym, ap, ap₂, _∙_}
 use mathlib.Core.Bool.{true, false}
 use mathlib.Core.Logic.{⊎-elim}
 use mathlib.Core.List.{List, []}
 use native.Mathlib.Omega.{arith}
-use borrow.Author.Tests.{lt-ltb, le-ltb, ltb-true, ltb-false}
 use lib.ListN.{length, getD}
 use lib.Dec.{ltb}
 use Rattle.game.specs.Sum.{list}
@@ -13,22 +12,27 @@ use Rattle.game.specs.Network.{Network, sumBelow, need, memberCount}
 use Rattle.game.specs.Tree.{treeOf, network}
 use Rattle.game.proofs.Bools.{both}
 use Rattle.game.proofs.Lists.{list-at}
-use Rattle.answers.specs.Level.{split, refusal, capSum, shortArc, splitOr9}
-use Rattle.level.specs.Found.{shortFrom}
+use Rattle.answers.specs.Level.{split, capSum, shortArc, splitOr9}
+use Rattle.level.specs.Found.{answerOf, shortAt, _orElse_, shortFrom}
+use Rattle.level.specs.declared.short.CapsFound.{CapsFound}
+use Rattle.level.specs.declared.short.CapsFound.the-variants.{Enough, Short}
 
 module _ (members : ℕ) (needs sums : List ℕ) where
   pub none-left : {k : ℕ} → k ≡ 0 → shortFrom members needs sums k ≡ split members
   unfolding shortFrom
   none-left e = rw e
 
-  module _ (k j shortfall : ℕ) (next : k ≡ suc j) (is : shortfall ≡ getD needs j 0 - getD sums j 0) where
-    pub short-here : 0 < shortfall → shortFrom members needs sums k ≡ refusal 9 k shortfall
+  -- at an arc, where r is what was found there
+  module _ (k j : ℕ) (r : CapsFound) (next : k ≡ suc j) (is : answerOf members r ≡ shortAt members k (getD needs j 0) (getD sums j 0)) where
+    here : shortFrom members needs sums k ≡ (answerOf members r orElse shortFrom members needs sums j)
     unfolding shortFrom
-    short-here h = rw (next, is, lt-ltb 0 (getD needs j 0 - getD sums j 0) (omega arith))
+    here = rw (is, next)
 
-    pub short-later : shortfall ≤ 0 → shortFrom members needs sums k ≡ shortFrom members needs sums j
-    unfolding shortFrom
-    short-later h = rw (next, le-ltb 0 (getD needs j 0 - getD sums j 0) (omega arith))
+    pub short-here : {arc shortfall : ℕ} → r ≡ Short arc shortfall → answerOf members r ≡ shortFrom members needs sums k
+    short-here e = sym (here ∙ rw e)
+
+    pub short-later : r ≡ Enough → shortFrom members needs sums k ≡ shortFrom members needs sums j
+    short-later e = here ∙ rw e
 
 -- over the needs and cap sums of a network
 module _ (n : Network) (caps : List ℕ) (m : ℕ) where
@@ -38,16 +42,13 @@ module _ (n : Network) (caps : List ℕ) (m : ℕ) where
   sums-at : (k : ℕ) → k < m → getD (list m (capSum n caps)) k 0 ≡ capSum n caps (suc k)
   sums-at k h = list-at (capSum n caps) 0 m k h
 
-  pub short-arcs : (k : ℕ) → k ≤ m → shortFrom (memberCount n) (list m (need n)) (list m (capSum n caps)) k ≡ splitOr9 n caps (shortArc n caps k)
+  short-arcs : (k : ℕ) → k ≤ m → shortFrom (memberCount n) (list m (need n)) (list m (capSum n caps)) k ≡ splitOr9 n caps (shortArc n caps k)
   unfolding shortFrom shortArc
   short-arcs zero h = refl
   short-arcs (suc k) h =
       ⊎-elim
-      (λ (e : ltb (capSum n caps (suc k)) (need n (suc k)) ≡ true).
-      rw (needs-at k (omega arith), sums-at k (omega arith), e, lt-ltb 0 (need n (suc k) - capSum n caps (suc k)) (omega (arith, ltb-true (capSum n caps (suc k)) (need n (suc k)) e))))
-      (λ (e : ltb (capSum n caps (suc k)) (need n (suc k)) ≡ false).
-      rw (needs-at k (omega arith), sums-at k (omega arith), e, le-ltb 0 (need n (suc k) - capSum n caps (suc k)) (omega (arith, ltb-false (capSum n caps (suc k)) (need n (suc k)) e)))
-      (short-arcs k (omega arith)))
+      (λ (e : ltb (capSum n caps (suc k)) (need n (suc k)) ≡ true). rw (needs-at k (omega arith), sums-at k (omega arith), e))
+      (λ (e : ltb (capSum n caps (suc k)) (need n (suc k)) ≡ false). rw (needs-at k (omega arith), sums-at k (omega arith), e) (short-arcs k (omega arith)))
       (both (ltb (capSum n caps (suc k)) (need n (suc k))))
 
 -- costs do not decide what the caps add up to

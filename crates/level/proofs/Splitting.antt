@@ -30,7 +30,7 @@ module _ (t : Tree) (caps : List ℕ) where
     pub to-come : arcsDown (network t) caps (ofArc (t .costs)) k shares ≡ level (network t) caps (ofArc (t .costs))
 
   module _ (ok : Accepted t) (none : shortArc (network t) caps (length (t .parents)) ≡ 0) where
-    enough : (k : ℕ) → In (network t .arcs) k → lower (network t) (view (network t) caps) (ofArc (t .costs)) k ≤ sumBelow (network t) (view (network t) caps) k
+    enough : (k : ℕ) → In (network t .arcs) k → lower (network t) (ofArc (t .costs)) k ≤ sumBelow (network t) (view (network t) caps) k
     enough = none-short (network t) caps (length (t .parents)) none
 
     pub splitting-start : {shares : List ℕ} {k : ℕ} → k ≡ length (t .parents) → shares ≡ replicate (memberCount (network t)) 0 → Splitting shares k

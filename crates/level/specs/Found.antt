@@ -13,8 +13,17 @@ abbrev pub answerOf : ℕ → CapsFound → LevelAnswer
 answerOf members Enough = split members
 answerOf members (Short arc shortfall) = refusal 9 arc shortfall
 
--- the answer of the arcs from k down, by their needs and cap sums: the first that is short decides
+-- one arc, by its need and what its users' caps add up to
+abbrev pub shortAt : ℕ → ℕ → ℕ → ℕ → LevelAnswer
+shortAt members arc need sum = cond (ltb sum need) (refusal 9 arc (need - sum)) (split members)
+
+-- the first answer where it is a refusal, else the second
+infixr 20 _orElse_
+abbrev pub _orElse_ : LevelAnswer → LevelAnswer → LevelAnswer
+split members orElse next = next
+refusal number place shortfall orElse next = refusal number place shortfall
+
+-- the arcs from k down, by the lists of needs and cap sums
 unfoldable pub shortFrom : ℕ → List ℕ → List ℕ → ℕ → LevelAnswer
 shortFrom members needs sums zero = split members
-shortFrom members needs sums (suc k) =
-    cond (ltb 0 (getD needs k 0 - getD sums k 0)) (refusal 9 (suc k) (getD needs k 0 - getD sums k 0)) (shortFrom members needs sums k)
+shortFrom members needs sums (suc k) = shortAt members (suc k) (getD needs k 0) (getD sums k 0) orElse shortFrom members needs sums k

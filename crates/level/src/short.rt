@@ -8,12 +8,25 @@ ghost use Rattle.game.specs.Tree.{treeOf, network};
 ghost use Rattle.answers.specs.Answer.{accepted};
 ghost use Rattle.answers.specs.Checks.{treeCheck};
 ghost use Rattle.answers.specs.Level.{Capped, shortArc, splitOr9};
-ghost use Rattle.level.specs.Found.{answerOf, shortFrom};
+ghost use Rattle.level.specs.Found.{answerOf, shortAt, shortFrom};
 
 pub enum CapsFound {
     Enough,
     // The first arc from the last down whose users' caps are short of its need.
     Short { arc: usize, shortfall: u64 },
+}
+
+// 9 at one arc, where what its users' caps add up to is below its need.
+fn short_at(arc: usize, need: u64, sum: u64) -> CapsFound
+    ensures { λ r. ⌜ ((members : ℕ) → answerOf members r ≡ shortAt members arc need sum) ⌝ }
+{
+    if sum < need {
+        return CapsFound::Short {
+            arc,
+            shortfall: need - sum,
+        };
+    }
+    CapsFound::Enough
 }
 
 // The arcs from the last down, by their needs and cap sums.
@@ -23,10 +36,10 @@ fn first_short(needs: &[u64], sums: &[u64]) -> CapsFound
 {
     let mut k = needs.len();
     while 0 < k {
-        let shortfall = numbers::above(needs[k - 1], sums[k - 1]);
-        if 0 < shortfall {
-            return CapsFound::Short { arc: k, shortfall };
-        }
+        let found = short_at(k, needs[k - 1], sums[k - 1]);
+        let CapsFound::Enough = found else {
+            return found;
+        };
         k -= 1;
     }
     CapsFound::Enough

@@ -1,6 +1,6 @@
 // Small choices between numbers, so that the loops that use them have no branch.
 ghost use mathlib.Core.Path.{_≡_};
-ghost use Prim.Native.Nat.{_-_};
+ghost use Prim.Native.Nat.{_-_, _≤_};
 ghost use lib.Dec.{ltb};
 ghost use Rattle.game.specs.Sum.{pick};
 ghost use Rattle.game.specs.Raise.{smaller};
@@ -18,9 +18,17 @@ pub fn smaller_of(a: u64, b: u64) -> u64
     if a < b { a } else { b }
 }
 
+// 1 where the test holds, else 0.
+pub fn one_if(b: bool) -> usize
+    ensures { λ r. ⌜ r ≡ pick b 1 ⌝ }
+{
+    if b { 1 } else { 0 }
+}
+
 // 1 where a is below b, else 0.
 pub fn one_if_below(a: u64, b: u64) -> u64
     ensures { λ r. ⌜ r ≡ pick (ltb a b) 1 ⌝ }
+    ensures { λ r. ⌜ r ≤ 1 ⌝ }
 {
     if a < b { 1 } else { 0 }
 }

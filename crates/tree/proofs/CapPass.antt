@@ -23,7 +23,7 @@ use Rattle.answers.specs.Checks.{mostShare}
 use Rattle.answers.specs.Level.{Capped, capSum}
 
 module _ (n : Network) {vertices : List ℕ} (listed : vertices ≡ members n) where
-  member-count : length vertices ≡ memberCount n
+  pub member-count : length vertices ≡ memberCount n
   member-count = ap length listed ∙ members-length (n .member) (n .arcs)
 
   -- member j's vertex

@@ -8,7 +8,7 @@ ghost use Rattle.game.specs.Network.{sumBelow};
 ghost use Rattle.game.specs.Tree.{treeOf, network, ofArc};
 ghost use Rattle.tree.specs.Passes.{Sound};
 
-// Adds to each arc's entry those of all arcs below it; answers the sum of all entries.
+// Adds to each arc's entry those of all arcs below it; answers the sum of all entries, which is asked to be below 2^63.
 pub fn add_up(parents: &[u16], out: &mut [u64]) -> u64
     requires { ⌜ Sound (now parents) ⌝ }
     requires { ⌜ length (now out) ≡ length (now parents) ⌝ }

@@ -13,9 +13,9 @@ use Rattle.game.specs.Tree.{treeOf, network}
 use Rattle.game.specs.Core.{users}
 use Rattle.game.proofs.Bools.{both, pick-yes, pick-no, pick-le}
 use Rattle.game.proofs.Sums.{sum-bound}
-use Rattle.game.proofs.Numbering.{members-length, member-at, vertex-of}
 use Rattle.tree.specs.Passes.{Sound}
 use Rattle.tree.proofs.MemberPass.{isMember}
+use Rattle.tree.proofs.CapPass.{member-count, member-in}
 use Rattle.users.specs.Users.{passing, Below}
 use Rattle.users.proofs.Passing.{passing-yes, passing-no}
 
@@ -79,7 +79,7 @@ module _ (f : ℕ → Bool) (n : ℕ) where
 -- the members' vertices as they are handed in
 module _ (ps vertices : List ℕ) (are : vertices ≡ members (network (treeOf ps []))) where
   pub vertices-count : length vertices ≡ memberCount (network (treeOf ps []))
-  vertices-count = ap length are ∙ members-length (isMember ps) (length ps)
+  vertices-count = member-count (network (treeOf ps [])) are
 
   pub vertices-few : Sound ps → length vertices ≤ 1023
   vertices-few sound =
@@ -87,12 +87,7 @@ module _ (ps vertices : List ℕ) (are : vertices ≡ members (network (treeOf p
 
   module _ (j : ℕ) (before : j < length vertices) where
     pub vertex-within : getD vertices j 0 ≤ length ps
-    vertex-within =
-        let v = vertex-of (isMember ps) (length ps) j (omega (arith, vertices-count)) in
-        let at : getD vertices j 0 ≡ v .vertex =
-        ap₂ (λ (l : List ℕ) (i : ℕ). getD l i 0) are (sym (v .numbered)) ∙ member-at (isMember ps) (length ps) (v .vertex) (v .within) (v .is-member)
-        in
-        omega (arith, v .within .high)
+    vertex-within = member-in (network (treeOf ps [])) are j before .high
 
     -- whether the next member is a user
     pub user-known : {k : ℕ} {below : List Bool} → Below ps k below → getD below (getD vertices j 0) false ≡ users (network (treeOf ps [])) k j

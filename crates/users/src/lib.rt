@@ -31,13 +31,7 @@ fn below(parents: &[u16], k: usize) -> [bool; 1024]
     below
 }
 
-fn one_if(b: bool) -> usize
-    ensures { λ r. ⌜ r ≡ pick b 1 ⌝ }
-{
-    if b { 1 } else { 0 }
-}
-
-// The users of arc k. Every member's number is written at the next place, which only a user's moves on.
+// The users of arc k. Every member's number is written at place `count`, which grows only for a user.
 pub fn users_of(parents: &[u16], vertices: &[u16], k: usize) -> Users
     requires { ⌜ Sound (now parents) ⌝ }
     requires { ⌜ now vertices ≡ members (network (treeOf (now parents) [])) ⌝ }
@@ -52,7 +46,7 @@ pub fn users_of(parents: &[u16], vertices: &[u16], k: usize) -> Users
     while j < vertices.len() {
         let v = vertices[j] as usize;
         list[count] = j as u16;
-        count += one_if(below[v]);
+        count += numbers::one_if(below[v]);
         j += 1;
     }
     Users { count, list }

@@ -1,4 +1,5 @@
 """The by-arc split of document 01, with no call of the engine."""
+from bisect import bisect_left
 from itertools import combinations
 from math import factorial
 
@@ -20,15 +21,21 @@ def shapley(parents, costs, count, i):
     )
 
 
+def gift(cost, users, j):
+    """What one arc gives member j: one unit more to as many of the lowest numbers as units are left over."""
+    lower = bisect_left(users, j)
+    return cost // len(users) + (1 if lower < cost % len(users) else 0)
+
+
 def by_arc_split(parents, costs):
-    """Each arc's cost divided among its users; the units left over to the lowest numbers."""
+    """Each member's share: what the arcs of its path give it."""
     vertices = member_vertices(parents)
     count = len(vertices)
-    shares = [0] * count
-    for users, cost in reversed(list(zip(arc_users(parents), costs))):
-        each, more = divmod(cost, len(users))
-        for place, j in enumerate(users):
-            shares[j] += each + (place < more)
+    users = arc_users(parents)
+    shares = [
+        sum(gift(costs[arc - 1], users[arc - 1], j) for arc in path(parents, vertex))
+        for j, vertex in enumerate(vertices)
+    ]
     assert sum(shares) == sum(costs)
     assert best_group(parents, costs, shares)[0] == 0
     if count <= MOST_MEMBERS:

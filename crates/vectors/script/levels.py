@@ -125,7 +125,7 @@ def worst_levels():
         costs = [MOST_COST] * 512 + [0] * 511
         # caps of every size, from 0 on; the last member's is enough for all
         yield level_of(parents, costs, [j * 10**8 for j in range(count - 1)] + [MOST_CAP])
-        # caps that just suffice, or fall short by less than a unit each
+        # caps that add up to the whole cost or to less than a unit a member below it
         yield level_of(parents, costs, [sum(costs) // count] * count)
     # the greatest shares that two members can have
     parents = chain(1021) + [1021, 1021]

@@ -3,7 +3,6 @@ from entries import shown
 from networks import star
 from audits import GREATEST, LEAST
 
-# lines that are no case
 UNREADABLE = [
     "",
     " ",

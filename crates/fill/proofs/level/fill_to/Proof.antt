@@ -6,7 +6,8 @@ use lib.ListN.{length, getD, drop}
 use denote.Ref.{now}
 use Rattle.answers.specs.Checks.{mostShare}
 use Rattle.users.specs.Users.{total}
-use Rattle.fill.specs.Fill.{part, filled, Numbers}
+use Rattle.game.specs.Raise.{part}
+use Rattle.fill.specs.Fill.{filled, Numbers}
 use Rattle.fill.proofs.Turns.{took-most, total-turn, total-end}
 use Rattle.fill.proofs.level.fill_to.Statement.{statement}
 use Rattle.fill.proofs.level.fill_to.Tie as tie

@@ -3,11 +3,10 @@ use mathlib.Core.Path.{_≡_, refl, sym, ap, _∙_}
 use native.Mathlib.Omega.{arith}
 use borrow.Author.Needs.{needs}
 use lib.ListN.{length, getD, drop, length-set}
-use lib.Dec.{ltb}
 use denote.Ref.{now}
-use Rattle.game.proofs.Bools.{pick-le}
 use Rattle.answers.specs.Checks.{mostShare}
-use Rattle.fill.specs.Fill.{took, Numbers, raised}
+use Rattle.game.specs.Raise.{took}
+use Rattle.fill.specs.Fill.{Numbers, raised}
 use Rattle.fill.proofs.Turns.{raised-end, raised-most, numbers-on, Turn, turn-even, turn-rest, turn-on}
 use Rattle.fill.proofs.raise.raise.Statement.{statement}
 use Rattle.fill.proofs.raise.raise.Tie as tie
@@ -43,7 +42,7 @@ slice-read-share : tie.Need-slice-read-share Inv-loop μ-loop
 slice-read-share c = omega (arith, user-here (c .before .before .before), c .before .before .before .before .loop .inv .0 .same)
 
 add-part-of : tie.Need-add-part-of Inv-loop μ-loop
-add-part-of c = omega (arith, c .one-if-below .ensures, pick-le (ltb 0 (c .before .before .before .before .before .loop .left)) 1, c .before .before .before .before .before .loop .inv .1)
+add-part-of c = omega (arith, c .one-if-below .ensures .1, c .before .before .before .before .before .loop .inv .1)
 
 -- the user's share and cap fit, so the share raised fits
 add-shares : tie.Need-add-shares Inv-loop μ-loop
@@ -71,7 +70,7 @@ turn c =
     let given = c .before .before .before .before .before .before .before .before .before .before .before .args in
     let u = getD (now (given .users)) (at .i) 0 in
     record {
-      aims = c .before .part-of .ensures ∙ ap (λ (one : ℕ). took (getD (now (given .caps)) u 0) (getD (at .shares) u 0) (given .level + one)) (c .before .before .one-if-below .ensures);
+      aims = c .before .part-of .ensures ∙ ap (λ (one : ℕ). took (getD (now (given .caps)) u 0) (getD (at .shares) u 0) (given .level + one)) (c .before .before .one-if-below .ensures .0);
       level-only = c .part-of2 .ensures;
     }
 

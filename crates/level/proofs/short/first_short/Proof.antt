@@ -18,10 +18,17 @@ abbrev μ-loop : tie.MeasureT-loop
 μ-loop needs sums k₀ k = k
 
 returns : tie.Need-returns Inv-loop μ-loop
-returns c = λ members. sym (c .before .before .before .before .before .loop .inv .2 members ∙ short-here members _ _ (c .before .before .before .before .before .loop .k) (c .before .before .before .before .before .loop .k - 1) _ (omega arith) (c .before .above .ensures) (c .if1 .taken))
+returns c = λ members.
+    let at = c .before .before .before .before .before .before .loop in
+    short-here members _ _ (at .k) (at .k - 1) _ (omega arith) (c .before .before .short-at .ensures members) (c .enum-told2 .given .1) ∙ sym (at .inv .2 members)
 
 loop-again : tie.Need-loop-again Inv-loop μ-loop
-loop-again c = (c .before .before .before .before .before .loop .inv .0, omega arith, λ members. c .before .before .before .before .before .loop .inv .2 members ∙ short-later members _ _ (c .before .before .before .before .before .loop .k) (c .before .before .before .before .before .loop .k - 1) _ (omega arith) (c .before .above .ensures) (c .if1 .left))
+loop-again c =
+    let at = c .before .before .before .before .before .before .loop in (
+      at .inv .0,
+      omega arith,
+      λ members. at .inv .2 members ∙ short-later members _ _ (at .k) (at .k - 1) _ (omega arith) (c .before .before .short-at .ensures members) (c .enum-told .given .1),
+    )
 
 returns-2 : tie.Need-returns-2 Inv-loop μ-loop
 returns-2 c = λ members. sym (c .before .loop .inv .2 members ∙ none-left members _ _ (omega (arith, c .loop-test .left)))
@@ -40,6 +47,8 @@ first-short-spec =
     (λ c. search needs)
     (λ c. search needs)
     (λ c κs. search needs)
+    (λ c. search needs)
+    (λ c. search needs)
     returns
     (λ c. search needs)
     (λ c. search needs)
