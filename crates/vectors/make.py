@@ -35,12 +35,37 @@ from levels import (
     worst_levels,
 )
 from divisions import division_refusals, large_divisions, leftovers, random_divisions
+from jobs import (
+    form_order,
+    full_jobs,
+    gaps,
+    job,
+    job_lengths,
+    job_marks,
+    job_notes,
+    job_values,
+    lent_lengths,
+    many_arcs,
+    offsets,
+    plain,
+    random_jobs,
+    read,
+    value_order,
+)
 from unreadable import UNREADABLE
 
 
 def beside_words(line, first=0):
     return f"{line}: {first}" + ",0" * (WORDS - 1)
 
+
+T_BYTES = bytes.fromhex(
+    "0000000006000000 0100000001000000 0100000005000000 0000000004000000"
+    "6400000000000000 0800000000000000 6400000000000000 0400000000000000 6400000000000000 0400000000000000"
+    "00000000 20000000 0400 0300 0100 54 4A"
+)
+
+LARGE = MOST_COST + 1
 
 # document 01's examples, with their answers by hand
 STATED = [
@@ -69,6 +94,21 @@ STATED = [
     (("level", *U, [3, 100], 2), "split 2: 3,4"),
     (("byarc", *T, 3), "members 3: 4,8,4"),
     (("byarc", *U, 2), "members 2: 4,3"),
+    (read(T_BYTES), "read 4 3 0: 0,1,1,0: 6,1,5,4: 100,100,100: 8,4,4; others kept"),
+    (read(plain([0], [7], note=b"ab")), "read 1 1 2: 0: 7: 100: -1; others kept"),
+    (read(T_BYTES, [1023, 1023, 1023, 1022]), "refused 10 at 0; others kept"),
+    (read(b""), "refused 11 at 0; others kept"),
+    (read(T_BYTES[:-1] + b"j"), "refused 12 at 0; others kept"),
+    (read(b"x" + T_BYTES), "refused 13 at 0; others kept"),
+    (read(plain(*T, fillers={3: 256})), "refused 14 at 3; others kept"),
+    (read(job([0] * 1024, [1] * 1024, [], [])), "refused 1 at 0; others kept"),
+    (read(job([0] * 1024, [1] * 1024, [], [], fillers={1024: 1})), "refused 14 at 1024; others kept"),
+    (read(job([], [], [], [])), "refused 1 at 0; others kept"),
+    (read(plain([0, 2], [LARGE, 1])), "refused 4 at 1; others kept"),
+    (read(plain([1], [LARGE])), "refused 3 at 1; others kept"),
+    (read(job(*T, [9, 9], [9, 9])), "refused 15 at 0; others kept"),
+    (read(job(*T, [9, 9, 2**64 - 1], [-(2**63), 9, 9])), "refused 7 at 2; others kept"),
+    (read(job(*T, [9, 9, 9], [9, -(2**63), 2**63 - 1])), "refused 7 at 1; others kept"),
 ]
 
 PARTS = [
@@ -98,9 +138,21 @@ PARTS = [
     large_divisions,
     division_refusals,
     random_divisions,
+    job_notes,
+    full_jobs,
+    many_arcs,
+    job_lengths,
+    job_marks,
+    offsets,
+    gaps,
+    form_order,
+    value_order,
+    job_values,
+    lent_lengths,
+    random_jobs,
 ]
 
-MOST_INPUT = 1 << 21
+MOST_INPUT = 1 << 22
 
 
 def write(path, lines):

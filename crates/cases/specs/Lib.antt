@@ -1,3 +1,4 @@
 pub mod Fields
+pub mod Hex
 pub mod Lists
 pub mod Signed

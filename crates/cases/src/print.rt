@@ -65,3 +65,32 @@ pub fn list16(entries: &[u16])
     width::widen16(entries, &mut wide);
     list(&wide[0..n]);
 }
+
+// As list.
+pub fn list32(entries: &[u32])
+    requires { ⌜ length (now entries) ≤ MOST ⌝ }
+{
+    let mut wide = [0u64; MOST];
+    let n = entries.len();
+    width::widen32(entries, &mut wide);
+    list(&wide[0..n]);
+}
+
+// As item.
+fn item_signed(i: usize, n: i64) {
+    if 0 < i {
+        labelled_signed(b",", n);
+    } else {
+        labelled_signed(b"", n);
+    }
+}
+
+// As list.
+pub fn list_signed(entries: &[i64]) {
+    opening(entries.len());
+    let mut i = 0;
+    while i < entries.len() {
+        item_signed(i, entries[i]);
+        i += 1;
+    }
+}

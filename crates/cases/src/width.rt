@@ -47,7 +47,13 @@ pub fn to_signed(from: &[u64], n: usize, to: &mut [i64])
     }
 }
 
-fn wide(n: u16) -> u64
+fn wide16(n: u16) -> u64
+    ensures { λ r. ⌜ r ≡ n ⌝ }
+{
+    n as u64
+}
+
+fn wide32(n: u32) -> u64
     ensures { λ r. ⌜ r ≡ n ⌝ }
 {
     n as u64
@@ -60,7 +66,19 @@ pub fn widen16(from: &[u16], to: &mut [u64])
 {
     let mut i = 0;
     while i < from.len() {
-        to[i] = wide(from[i]);
+        to[i] = wide16(from[i]);
+        i += 1;
+    }
+}
+
+// As widen16.
+pub fn widen32(from: &[u32], to: &mut [u64])
+    requires { ⌜ length (now from) ≤ length (now to) ⌝ }
+    ensures { λ _. ⌜ now (to .exit) ≡ paste (now (to .entry)) 0 (now (from .entry)) (length (now (from .entry))) ⌝ }
+{
+    let mut i = 0;
+    while i < from.len() {
+        to[i] = wide32(from[i]);
         i += 1;
     }
 }

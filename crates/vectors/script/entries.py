@@ -1,4 +1,4 @@
-"""What the program prints of each entry. A case is a tuple: the command, then its fields, each a list or a number."""
+"""What the program prints of each entry. A case is a tuple: the command, then its fields, each a list, a number or bytes."""
 from rules import (
     Refusal,
     WORDS,
@@ -15,6 +15,7 @@ from rules import (
     words_of,
 )
 from by_arc import by_arc_split
+from job import read_job
 from level import level_split
 
 UNTOUCHED = 9
@@ -112,12 +113,31 @@ WRITING = {"members", "needs", "level", "byarc"}
 def shown(field):
     if isinstance(field, int):
         return str(field)
+    if isinstance(field, bytes):
+        return field.hex() or "-"
     return ",".join(map(str, field)) or "-"
+
+
+def answer_job(lengths, data):
+    """The front of each list, or the refusal, and whether the other entries are as they were."""
+    lists = [[UNTOUCHED] * length for length in lengths]
+    fronts = [0] * len(lists)
+    try:
+        arcs, members, note = read_job(data, *lists)
+        fronts = [arcs, arcs, members, members]
+        shown_fronts = [shown(entries[:n]) for entries, n in zip(lists, fronts)]
+        line = ": ".join([f"read {arcs} {members} {note}", *shown_fronts])
+    except Refusal as refusal:
+        line = str(refusal)
+    assert all(entries[n:] == [UNTOUCHED] * (len(entries) - n) for entries, n in zip(lists, fronts))
+    return f"{line}; others kept"
 
 
 def answer(case):
     """The line that the program must print."""
     command, *fields = case
+    if command == "job":
+        return answer_job(*fields)
     beside = []
     if command in WRITING:
         beside = [[UNTOUCHED] * fields.pop()]

@@ -1,6 +1,7 @@
-// One case: a command, a tree, and for some commands one field or two more; or a number of members and a list with an entry each.
+// One case: a command, a tree, and for some commands one field or two more; or a number of members and a list with an entry each; or a job.
 use crate::command;
 use crate::command::Command;
+use crate::job_case;
 use crate::print;
 use cases::field;
 use cases::list;
@@ -190,6 +191,7 @@ fn answer(line: &[u8]) {
     match c {
         Command::Shares => shares(line),
         Command::Caps => caps(line),
+        Command::Job => job_case::run(line),
         _ => with_tree(c, line),
     }
 }

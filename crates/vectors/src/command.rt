@@ -12,13 +12,14 @@ pub enum Command {
     Level,
     Caps,
     ByArc,
+    Job,
     Unknown,
 }
 
 pub fn named(name: &[u8]) -> Command {
     match field::find(
-        b"check count members needs group audit shares level caps byarc",
-        10,
+        b"check count members needs group audit shares level caps byarc job",
+        11,
         name,
     ) {
         0 => Command::Check,
@@ -31,6 +32,7 @@ pub fn named(name: &[u8]) -> Command {
         7 => Command::Level,
         8 => Command::Caps,
         9 => Command::ByArc,
+        10 => Command::Job,
         _ => Command::Unknown,
     }
 }
@@ -48,6 +50,7 @@ pub fn fields(c: Command) -> usize {
         Command::Level => 5,
         Command::Caps => 3,
         Command::ByArc => 4,
+        Command::Job => 3,
         Command::Unknown => 0,
     }
 }

@@ -1,17 +1,18 @@
 // Runs the engine's entries on the cases of standard input, one a line, and prints a line each.
 mod case;
 mod command;
+mod job_case;
 mod print;
 
 use libc::STDIN_FILENO;
 ghost use mathlib.Core.Path.{_≡_};
 ghost use lib.ListN.{length};
 
-// Room for the input, 2 MiB of zeros.
-fn room() -> [u8; 2097152]
-    ensures { λ r. ⌜ 2097152 ≡ length r ⌝ }
+// Room for the input, 4 MiB of zeros.
+fn room() -> [u8; 4194304]
+    ensures { λ r. ⌜ 4194304 ≡ length r ⌝ }
 {
-    [0; 2097152]
+    [0; 4194304]
 }
 
 fn run_all(input: &[u8]) {

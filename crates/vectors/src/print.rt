@@ -16,7 +16,7 @@ pub fn bad_case() {
     text(b"bad case");
 }
 
-fn refusal(r: Refusal) {
+pub fn refusal(r: Refusal) {
     labelled(b"refused ", r.number as u64);
     labelled(b" at ", r.place as u64);
 }

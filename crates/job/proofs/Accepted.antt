@@ -1,0 +1,55 @@
+-- What it means that a job is accepted.
+use Prim.Native.Nat.{ℕ, _≤_}
+use mathlib.Core.Path.{_≡_}
+use mathlib.Core.Bool.{not}
+use mathlib.Core.List.{List}
+use native.Mathlib.Omega.{arith}
+use lib.Dec.{eqb}
+use Rattle.answers.specs.Answer.{accepted, fault, _then_}
+use Rattle.answers.specs.Checks.{mostArcs, treeCheck, proposalCheck}
+use Rattle.answers.specs.Level.{capsCheck}
+use Rattle.answers.proofs.Accepted.{first-accepted, second-accepted, no-fault, tree-accepted}
+use Rattle.answers.proofs.Limits.{members-bound}
+use Rattle.job_bytes.specs.Format.{arcOffset, jobArcs, jobMembers, parentAt, jobCaps, jobProposals}
+use Rattle.job_bytes.proofs.Entries.{length-entries}
+use Rattle.job_form.specs.Form.{formCheck, fillersCheck}
+use Rattle.job_form.proofs.FormAccepted.{alike}
+use Rattle.job.specs.JobCheck.{jobTree, treeMembers, countCheck, sharesCheck, valuesCheck, jobCheck}
+
+-- 15
+pub count-accepted : (rows members : ℕ) → fault (not (eqb rows members)) 15 0 ≡ accepted → rows ≡ members
+count-accepted rows members e = alike rows members (no-fault (not (eqb rows members)) 15 0 e)
+
+-- a job on which no check finds fault
+pub record JobAccepted (bytes : List ℕ) : Type 0 where
+  pub form : formCheck bytes ≡ accepted
+  pub fillers : fillersCheck bytes ≡ accepted
+  pub tree : treeCheck (jobTree bytes) ≡ accepted
+  pub rows : jobMembers bytes ≡ treeMembers bytes
+  pub caps : capsCheck (treeMembers bytes) (jobCaps bytes) ≡ accepted
+  pub proposals : proposalCheck (treeMembers bytes) (jobProposals bytes) ≡ accepted
+
+pub job-accepted : (bytes : List ℕ) → jobCheck bytes ≡ accepted → JobAccepted bytes
+unfolding jobCheck valuesCheck sharesCheck
+job-accepted bytes e =
+    let after-form = second-accepted (formCheck bytes) (fillersCheck bytes then valuesCheck bytes) e in
+    let values = second-accepted (fillersCheck bytes) (valuesCheck bytes) after-form in
+    let after-tree = second-accepted (treeCheck (jobTree bytes)) (countCheck bytes then sharesCheck bytes) values in
+    let shares = second-accepted (countCheck bytes) (sharesCheck bytes) after-tree in
+    let caps = capsCheck (treeMembers bytes) (jobCaps bytes) in
+    let proposals = proposalCheck (treeMembers bytes) (jobProposals bytes) in
+    record {
+      form = first-accepted (formCheck bytes) (fillersCheck bytes then valuesCheck bytes) e;
+      fillers = first-accepted (fillersCheck bytes) (valuesCheck bytes) after-form;
+      tree = first-accepted (treeCheck (jobTree bytes)) (countCheck bytes then sharesCheck bytes) values;
+      rows = count-accepted (jobMembers bytes) (treeMembers bytes) (first-accepted (countCheck bytes) (sharesCheck bytes) after-tree);
+      caps = first-accepted caps proposals shares;
+      proposals = second-accepted caps proposals shares;
+    }
+
+module _ (bytes : List ℕ) (ok : JobAccepted bytes) where
+  pub few-arcs : jobArcs bytes ≤ mostArcs
+  few-arcs = omega (arith, tree-accepted (jobTree bytes) (ok .tree) .few, length-entries (jobArcs bytes) (parentAt bytes (arcOffset bytes)))
+
+  pub few-members : jobMembers bytes ≤ mostArcs
+  few-members = omega (arith, members-bound (jobTree bytes) (tree-accepted (jobTree bytes) (ok .tree)), ok .rows)

@@ -1,0 +1,94 @@
+-- The reader's answer and lists, by what its checks find.
+use Prim.Native.Nat.{ℕ, _+_, _*_, _≤_}
+use mathlib.Core.Path.{_≡_}
+use mathlib.Core.Bool.{Bool, _||_}
+use mathlib.Core.List.{List, _++_}
+use native.Mathlib.Omega.{arith}
+use borrow.Author.Tests.{ltb-false}
+use lib.ListN.{length, drop}
+use lib.IntN.{ℤ}
+use lib.Dec.{ltb}
+use Rattle.game.proofs.Bools.{neither-first, neither-second}
+use Rattle.answers.specs.Answer.{Answer, value, refusal, accepted, refused}
+use Rattle.answers.specs.Checks.{mostArcs}
+use Rattle.answers.proofs.Accepted.{no-fault}
+use Rattle.job_bytes.specs.Numbers.{entries}
+use Rattle.job_bytes.specs.Format.{parentAt, costAt, capAt, proposalAt, TrailerOf}
+use Rattle.job_form.proofs.FormAccepted.{form-layout}
+use Rattle.job.specs.JobCheck.{jobCheck}
+use Rattle.job.specs.Reader.{Lent, lent, roomCheck, readCheck, JobValue, jobAnswer, jobLists}
+use Rattle.job.proofs.Accepted.{JobAccepted, few-arcs, few-members}
+
+-- each list has room for the largest tree
+record Room (parents costs caps proposals : ℕ) : Type 0 where
+  for-parents : mostArcs ≤ parents
+  for-costs : mostArcs ≤ costs
+  for-caps : mostArcs ≤ caps
+  for-proposals : mostArcs ≤ proposals
+
+room-accepted : (parents costs caps proposals : ℕ) → roomCheck parents costs caps proposals ≡ accepted → Room parents costs caps proposals
+room-accepted parents costs caps proposals e =
+    let few : ℕ → Bool = λ n. ltb n mostArcs in
+    let none = no-fault (few parents || (few costs || (few caps || few proposals))) 10 0 e in
+    let after = neither-second (few parents) (few costs || (few caps || few proposals)) none in
+    let last = neither-second (few costs) (few caps || few proposals) after in
+    record {
+      for-parents = ltb-false parents mostArcs (neither-first (few parents) (few costs || (few caps || few proposals)) none);
+      for-costs = ltb-false costs mostArcs (neither-first (few costs) (few caps || few proposals) after);
+      for-caps = ltb-false caps mostArcs (neither-first (few caps) (few proposals) last);
+      for-proposals = ltb-false proposals mostArcs (neither-second (few caps) (few proposals) last);
+    }
+
+-- the rows stand within the bytes, and each list has room for its values
+pub record Fits (size parents costs caps proposals offset rows arcs members : ℕ) : Type 0 where
+  pub arcs-within : offset + 8 * arcs ≤ size
+  pub members-within : rows + 16 * members ≤ size
+  pub for-parents : arcs ≤ parents
+  pub for-costs : arcs ≤ costs
+  pub for-caps : members ≤ caps
+  pub for-proposals : members ≤ proposals
+
+pub fits : (bytes : List ℕ) (parents costs caps proposals : ℕ) {offset rows arcs members : ℕ} → roomCheck parents costs caps proposals ≡ accepted → JobAccepted bytes
+    → TrailerOf bytes offset rows arcs members → Fits (length bytes) parents costs caps proposals offset rows arcs members
+fits bytes parents costs caps proposals e ok t =
+    let room = room-accepted parents costs caps proposals e in
+    let layout = form-layout bytes (ok .form) in
+    record {
+      arcs-within = omega (arith, layout .arcs-end, layout .members-end);
+      members-within = omega (arith, layout .members-end);
+      for-parents = omega (arith, room .for-parents, few-arcs bytes ok);
+      for-costs = omega (arith, room .for-costs, few-arcs bytes ok);
+      for-caps = omega (arith, room .for-caps, few-members bytes ok);
+      for-proposals = omega (arith, room .for-proposals, few-members bytes ok);
+    }
+
+module _ (bytes : List ℕ) (l : Lent) where
+  -- the answer and the lists are those that are defined
+  abbrev pub Answered : Answer JobValue → Lent → Type 0
+  Answered a after = (a ≡ jobAnswer bytes l) × (after ≡ jobLists bytes l)
+
+  turned-away : {number place : ℕ} → readCheck bytes l ≡ refused number place → Answered (refusal number place) l
+  unfolding jobAnswer jobLists
+  turned-away e = (rw e, rw e)
+
+  pub no-room : {number place : ℕ} → roomCheck (length (l .parents)) (length (l .costs)) (length (l .caps)) (length (l .proposals)) ≡ refused number place
+      → Answered (refusal number place) l
+  unfolding readCheck
+  no-room e = turned-away (rw e)
+
+  module _ (room : roomCheck (length (l .parents)) (length (l .costs)) (length (l .caps)) (length (l .proposals)) ≡ accepted) where
+    pub no-job : {number place : ℕ} → jobCheck bytes ≡ refused number place → Answered (refusal number place) l
+    unfolding readCheck
+    no-job e = turned-away (rw (room, e))
+
+    pub read-job : {offset rows arcs members : ℕ} {parents costs caps : List ℕ} {proposals : List ℤ} → jobCheck bytes ≡ accepted → TrailerOf bytes offset rows arcs members
+        → parents ≡ entries arcs (parentAt bytes offset) ++ drop arcs (l .parents)
+        → costs ≡ entries arcs (costAt bytes offset) ++ drop arcs (l .costs)
+        → caps ≡ entries members (capAt bytes rows) ++ drop members (l .caps)
+        → proposals ≡ entries members (proposalAt bytes rows) ++ drop members (l .proposals)
+        → Answered (value (record { arcs = arcs; members = members; note = offset })) (lent parents costs caps proposals)
+    unfolding readCheck jobAnswer jobLists
+    read-job job t ps cs ks ss = (
+      rw (room, job, t .arcs-is, t .members-is, t .arc-offset-is),
+      rw (room, job, ps, cs, ks, ss, t .arcs-is, t .members-is, t .arc-offset-is, t .member-offset-is),
+    )

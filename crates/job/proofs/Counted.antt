@@ -1,0 +1,43 @@
+-- What the count of a tree's members says of the tree's check, and the shares' check by the number of members.
+use Prim.Native.Nat.{ℕ}
+use mathlib.Core.Path.{_≡_, refl, sym, ap, _∙_}
+use native.Mathlib.Omega.{arith}
+use lib.IntN.{ℤ}
+use Rattle.game.specs.Network.{memberCount}
+use Rattle.game.specs.Tree.{Tree, network}
+use Rattle.answers.specs.Answer.{Check, accepted, refused, answer}
+use Rattle.answers.specs.Checks.{treeCheck}
+use Rattle.answers.specs.Members.{memberCountAnswer}
+use Rattle.checks.specs.declared.Refusal.{Refusal}
+use Rattle.engine.specs.Outcomes.{memberCountOf}
+use Rattle.engine.specs.declared.members.MemberCount.{MemberCount}
+use Rattle.engine.specs.declared.members.MemberCount.the-variants.{Members, Refused as NoMembers}
+use Rattle.job_bytes.specs.Numbers.{entries}
+use Rattle.job.specs.JobCheck.{sharesOf}
+use Rattle.job.specs.Reader.{treeFound}
+
+found-by : (check : Check) (count : MemberCount) (n : ℕ) → memberCountOf count ≡ answer check n → treeFound count ≡ check
+found-by accepted (Members m) n e = refl
+found-by accepted (NoMembers r) n e = absurd (let z : _≡_ {A = ℕ} 0 1 = cc in omega arith)
+found-by (refused number place) (Members m) n e = absurd (let z : _≡_ {A = ℕ} 0 1 = cc in omega arith)
+found-by (refused number place) (NoMembers r) n e = cc
+
+counted-by : (check : Check) (m n : ℕ) → memberCountOf (Members m) ≡ answer check n → m ≡ n
+counted-by accepted m n e = cc
+counted-by (refused number place) m n e = absurd (let z : _≡_ {A = ℕ} 0 1 = cc in omega arith)
+
+module _ (count : MemberCount) (t : Tree) (is : memberCountOf count ≡ memberCountAnswer t) where
+  pub tree-is : treeFound count ≡ treeCheck t
+  unfolding memberCountAnswer
+  tree-is = found-by (treeCheck t) count (memberCount (network t)) is
+
+  pub tree-refused : {r : Refusal} → count ≡ NoMembers r → treeCheck t ≡ refused (r .number) (r .place)
+  tree-refused e = sym tree-is ∙ ap treeFound e
+
+  pub tree-counted : {n : ℕ} → count ≡ Members n → (treeCheck t ≡ accepted) × (n ≡ memberCount (network t))
+  unfolding memberCountAnswer
+  tree-counted {n} e = (sym tree-is ∙ ap treeFound e, counted-by (treeCheck t) n (memberCount (network t)) (rw e at is))
+
+pub shares-by : {found : Check} {members rows : ℕ} (f : ℕ → ℕ) (g : ℕ → ℤ) (n : ℕ) → n ≡ members → n ≡ rows
+    → found ≡ sharesOf n (entries n f) (entries n g) → found ≡ sharesOf members (entries rows f) (entries rows g)
+shares-by f g n e d is = rw (← e, ← d) is

@@ -1,0 +1,58 @@
+-- The laws of the reader.
+use Prim.Native.Nat.{ℕ}
+use mathlib.Core.Path.{_≡_, refl, sym}
+use mathlib.Core.List.{List, _++_}
+use native.Mathlib.Omega.{arith}
+use lib.ListN.{length, drop}
+use Rattle.answers.specs.Answer.{Check, accepted, refused, value, answer}
+use Rattle.answers.proofs.Accepted.{second-accepted}
+use Rattle.job_bytes.specs.Format.{jobArcs, jobMembers, arcOffset, memberOffset, parentAt, costAt, capAt, proposalAt, jobParents, jobCosts, jobCaps, jobProposals}
+use Rattle.job_bytes.proofs.Entries.{front}
+use Rattle.job_form.proofs.SameJob.{same-job}
+use Rattle.job.specs.JobCheck.{jobCheck}
+use Rattle.job.specs.Reader.{Lent, lent, roomCheck, readCheck, jobValue, jobAnswer, jobLists}
+use Rattle.job.specs.Laws.{Usable, ReadUsable, Determined}
+use Rattle.job.proofs.Accepted.{job-accepted}
+
+-- an answer that is a value: the check finds nothing
+answered : {A : Type 0} (check : Check) (x v : A) → answer check x ≡ value v → (check ≡ accepted) × (v ≡ x)
+answered accepted x v e = (refl, cc)
+answered (refused number place) x v e = let z : _≡_ {A = ℕ} 0 1 = cc in absurd (omega arith)
+
+-- the lists after a job was read
+filled : (bytes : List ℕ) (l : Lent) → readCheck bytes l ≡ accepted
+    → jobLists bytes l
+    ≡ lent (jobParents bytes ++ drop (jobArcs bytes) (l .parents)) (jobCosts bytes ++ drop (jobArcs bytes) (l .costs))
+    (jobCaps bytes ++ drop (jobMembers bytes) (l .caps)) (jobProposals bytes ++ drop (jobMembers bytes) (l .proposals))
+unfolding jobLists
+filled bytes l e = rw e
+
+usable : (bytes : List ℕ) (l : Lent) → readCheck bytes l ≡ accepted → Usable (jobValue bytes) (jobLists bytes l)
+unfolding readCheck
+usable bytes l e =
+    let room = roomCheck (length (l .parents)) (length (l .costs)) (length (l .caps)) (length (l .proposals)) in
+    let ok = job-accepted bytes (second-accepted room (jobCheck bytes) e) in
+    let ps = front (jobArcs bytes) (parentAt bytes (arcOffset bytes)) (drop (jobArcs bytes) (l .parents)) in
+    let cs = front (jobArcs bytes) (costAt bytes (arcOffset bytes)) (drop (jobArcs bytes) (l .costs)) in
+    let ks = front (jobMembers bytes) (capAt bytes (memberOffset bytes)) (drop (jobMembers bytes) (l .caps)) in
+    let ss = front (jobMembers bytes) (proposalAt bytes (memberOffset bytes)) (drop (jobMembers bytes) (l .proposals)) in
+    rw (filled bytes l e)
+    (record {
+      tree = rw (ps, cs) (ok .tree);
+      members = rw ps (sym (ok .rows));
+      caps = rw ks (rw (← ok .rows) at (ok .caps));
+      proposals = rw ss (rw (← ok .rows) at (ok .proposals));
+    })
+
+pub read-usable : ReadUsable
+unfolding jobAnswer
+read-usable bytes l v e = let read = answered (readCheck bytes l) (jobValue bytes) v e in rw (read .1) (usable bytes l (read .0))
+
+pub determined : Determined
+determined a b as-bytes bs-bytes ea eb alike =
+    let ja = job-accepted a ea in
+    let jb = job-accepted b eb in
+    same-job a b
+    (record { are-bytes = as-bytes; form = ja .form; fillers = ja .fillers })
+    (record { are-bytes = bs-bytes; form = jb .form; fillers = jb .fillers })
+    alike

@@ -1,0 +1,17 @@
+-- Two answers of the reader that stand for the same value or refusal are the same: each answer can be read back.
+use mathlib.Core.Path.{_≡_, refl, sym, ap, _∙_}
+use Rattle.answers.specs.Answer.{Answer, value, refusal}
+use Rattle.job.specs.Reader.{JobValue, jobReadOf}
+use Rattle.job.specs.declared.JobRead.{JobRead}
+use Rattle.job.specs.declared.JobRead.the-variants.{Read, Refused}
+
+abbrev job-back : Answer JobValue → JobRead
+job-back (value v) = Read (v .arcs) (v .members) (v .note)
+job-back (refusal number place) = Refused (record { number = number; place = place })
+
+job-is : (a : JobRead) → job-back (jobReadOf a) ≡ a
+job-is (Read arcs members note) = refl
+job-is (Refused r) = refl
+
+pub job-read-one-to-one : (a b : JobRead) → jobReadOf a ≡ jobReadOf b → a ≡ b
+job-read-one-to-one a b e = sym (job-is a) ∙ ap job-back e ∙ job-is b

@@ -1,0 +1,27 @@
+-- The table, by evaluation.
+use mathlib.Core.Path.{refl}
+use Rattle.game.specs.Tree.{hasChild}
+use Rattle.answers.specs.Checks.{arcsCheck, treeCheck, rangeCheck}
+use Rattle.job_bytes.specs.Numbers.{littleEndian, signed64, entries}
+use Rattle.job_bytes.specs.Format.{arcOffset, memberOffset, jobArcs, jobMembers, version}
+use Rattle.job_form.specs.Form.{formCheck, fillersFrom}
+use Rattle.job.specs.JobCheck.{sharesCheck, valuesCheck, jobCheck}
+use Rattle.job.specs.Reader.{readCheck, jobAnswer, jobLists}
+use Rattle.job.specs.Table.{Table}
+
+pub table : Table
+unfolding hasChild arcsCheck treeCheck rangeCheck littleEndian signed64 entries arcOffset memberOffset jobArcs jobMembers version formCheck fillersFrom sharesCheck valuesCheck jobCheck readCheck jobAnswer jobLists
+table =
+    record {
+      T-size = refl;
+      T-read = refl;
+      T-lists = refl;
+      noted-read = refl;
+      noted-proposals = refl;
+      short-list = refl;
+      filler-first = refl;
+      no-arcs = refl;
+      fewer-members = refl;
+      outside-last = refl;
+      outside-lists = refl;
+    }

@@ -1,0 +1,47 @@
+use mathlib.Core.Path.{_≡_}
+use borrow.Author.Needs.{needs}
+use denote.Ref.{now}
+use Rattle.answers.specs.Answer.{accepted}
+use Rattle.checks.proofs.Opened.{opened}
+use Rattle.job_form.specs.Form.{formCheck}
+use Rattle.job_form.proofs.Composed.{stopped, went-on}
+use Rattle.job_form.proofs.FormAccepted.{form-layout}
+use Rattle.job.specs.JobCheck.{jobCheck}
+use Rattle.job.proofs.check_job.Statement.{statement}
+use Rattle.job.proofs.check_job.Tie as tie
+
+returns : tie.Need-returns
+unfolding jobCheck
+returns c = stopped _ (c .before .before .check-form .ensures) (c .enum-told2 .given .1)
+
+formed : (c : tie.After-enum-told) → formCheck (now (c .before .before .before .before .args .bytes)) ≡ accepted
+formed c = opened (c .before .before .check-form .ensures) (c .enum-told .given .1)
+
+check-fillers-requires : tie.Need-check-fillers-requires
+check-fillers-requires c κs = form-layout _ (formed c)
+
+returns-2 : tie.Need-returns-2
+unfolding jobCheck
+returns-2 c = went-on (formed (c .before .before .before)) (stopped _ (c .before .before .check-fillers .ensures) (c .enum-told4 .given .1))
+
+check-values-requires : tie.Need-check-values-requires
+check-values-requires c κs = form-layout _ (formed (c .before .before .before))
+
+returns-3 : tie.Need-returns-3
+unfolding jobCheck
+returns-3 c = went-on (formed (c .before .before .before .before)) (went-on (opened (c .before .before .before .check-fillers .ensures) (c .before .enum-told3 .given .1)) (c .check-values .ensures))
+
+pub check-job-spec : {M : Type 1} → statement M
+check-job-spec =
+    tie.close
+    (tie.spec
+    (λ c κs. search needs)
+    (λ c. search needs)
+    (λ c. search needs)
+    returns
+    check-fillers-requires
+    (λ c. search needs)
+    (λ c. search needs)
+    returns-2
+    check-values-requires
+    returns-3)

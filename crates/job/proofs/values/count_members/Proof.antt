@@ -1,0 +1,24 @@
+use borrow.Author.Needs.{needs}
+use Rattle.job_bytes.proofs.Entries.{front-taken}
+use Rattle.job.proofs.values.count_members.Statement.{statement}
+use Rattle.job.proofs.values.count_members.Tie as tie
+
+returns : tie.Need-returns
+returns c = rw (front-taken _ _ _ (c .before .before .before .before .before .before .before .before .before .read-parents .ensures), front-taken _ _ _ (c .before .before .before .before .before .before .read-costs .ensures)) at (c .count-members .ensures)
+
+pub count-members-spec : {M : Type 1} → statement M
+count-members-spec =
+    tie.close
+    (tie.spec
+    (λ c. search needs)
+    (λ c κs. search needs)
+    (λ c. search needs)
+    (λ c κs. search needs)
+    (λ c. search needs)
+    (λ c. search needs)
+    (λ c. search needs)
+    (λ c. search needs)
+    (λ c. search needs)
+    (λ c. search needs)
+    (λ c κs. search needs)
+    returns)

@@ -1,0 +1,4 @@
+pub mod JobCheck
+pub mod Reader
+pub mod Laws
+pub mod Table

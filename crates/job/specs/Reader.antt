@@ -1,0 +1,66 @@
+-- What the reader answers, and the lent lists afterwards.
+use Prim.Native.Nat.{ℕ}
+use mathlib.Core.Bool.{_||_}
+use mathlib.Core.List.{List, _++_}
+use lib.ListN.{length, drop}
+use lib.IntN.{ℤ}
+use lib.Dec.{ltb}
+use Rattle.answers.specs.Answer.{Check, accepted, refused, Answer, value, refusal, fault, _then_, answer, written}
+use Rattle.answers.specs.Checks.{mostArcs}
+use Rattle.engine.specs.declared.members.MemberCount.{MemberCount}
+use Rattle.engine.specs.declared.members.MemberCount.the-variants.{Members, Refused as NoMembers}
+use Rattle.job_bytes.specs.Format.{arcOffset, jobArcs, jobMembers, jobParents, jobCosts, jobCaps, jobProposals}
+use Rattle.job.specs.JobCheck.{jobCheck}
+use Rattle.job.specs.declared.JobRead.{JobRead}
+use Rattle.job.specs.declared.JobRead.the-variants.{Read, Refused}
+
+-- the lists that are lent to the reader
+pub record Lent : Type 0 where
+  pub parents : List ℕ
+  pub costs : List ℕ
+  pub caps : List ℕ
+  pub proposals : List ℤ
+
+abbrev pub lent : List ℕ → List ℕ → List ℕ → List ℤ → Lent
+lent parents costs caps proposals = record { parents = parents; costs = costs; caps = caps; proposals = proposals }
+
+-- 10: a list has fewer than 1,023 entries
+abbrev pub roomCheck : ℕ → ℕ → ℕ → ℕ → Check
+roomCheck parents costs caps proposals =
+    fault (ltb parents mostArcs || (ltb costs mostArcs || (ltb caps mostArcs || ltb proposals mostArcs))) 10 0
+
+-- 10, then the checks on the bytes
+unfoldable pub readCheck : List ℕ → Lent → Check
+readCheck bytes l = roomCheck (length (l .parents)) (length (l .costs)) (length (l .caps)) (length (l .proposals)) then jobCheck bytes
+
+-- the number of arcs and of members, and the length of the note
+pub record JobValue : Type 0 where
+  pub arcs : ℕ
+  pub members : ℕ
+  pub note : ℕ
+
+abbrev pub jobValue : List ℕ → JobValue
+jobValue bytes = record { arcs = jobArcs bytes; members = jobMembers bytes; note = arcOffset bytes }
+
+unfoldable pub jobAnswer : List ℕ → Lent → Answer JobValue
+jobAnswer bytes l = answer (readCheck bytes l) (jobValue bytes)
+
+-- the values in the front of the lists, whose other entries stay
+unfoldable pub jobLists : List ℕ → Lent → Lent
+jobLists bytes l =
+    record {
+      parents = written (readCheck bytes l) (l .parents) (jobParents bytes ++ drop (jobArcs bytes) (l .parents));
+      costs = written (readCheck bytes l) (l .costs) (jobCosts bytes ++ drop (jobArcs bytes) (l .costs));
+      caps = written (readCheck bytes l) (l .caps) (jobCaps bytes ++ drop (jobMembers bytes) (l .caps));
+      proposals = written (readCheck bytes l) (l .proposals) (jobProposals bytes ++ drop (jobMembers bytes) (l .proposals));
+    }
+
+-- what each case of JobRead stands for
+abbrev pub jobReadOf : JobRead → Answer JobValue
+jobReadOf (Read arcs members note) = value (record { arcs = arcs; members = members; note = note })
+jobReadOf (Refused r) = refusal (r .number) (r .place)
+
+-- what the tree's check found where the members were counted
+abbrev pub treeFound : MemberCount → Check
+treeFound (Members n) = accepted
+treeFound (NoMembers r) = refused (r .number) (r .place)

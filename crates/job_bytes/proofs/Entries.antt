@@ -1,0 +1,64 @@
+-- Lists given entry by entry, and a loop that writes one into the front of another list.
+use Prim.Native.Nat.{ℕ, zero, suc, _+_, _-_, _<_, _≤_}
+use mathlib.Core.Path.{_≡_, refl, sym, ap, _∙_}
+use mathlib.Core.List.{List, [], _∷_, _++_}
+use native.Mathlib.Decide.{decLt}
+use native.Mathlib.Nat.{sub-zero}
+use native.Mathlib.Numerals.{add-one}
+use native.Mathlib.Omega.{arith}
+use lib.ListN.{length, getD, set, take, drop, length-append, length-set, List·getD-append}
+use lib.Seq.{drop-cons, set-at, take-at, getD-at, append-snoc}
+use Rattle.job_bytes.specs.Numbers.{entries}
+
+module _ {A : Type 0} where
+  pub length-entries : (n : ℕ) (f : ℕ → A) → length (entries n f) ≡ n
+  unfolding entries
+  length-entries zero f = refl
+  length-entries (suc n) f = omega (arith, length-append (entries n f) (f n ∷ []), length-entries n f)
+
+  pub entry : (n : ℕ) (f : ℕ → A) (d : A) (i : ℕ) → i < n → getD (entries n f) i d ≡ f i
+  unfolding entries
+  entry zero f d i h = absurd (omega arith)
+  entry (suc n) f d i h = elim (decLt i n) [
+    | yes l ↦ List·getD-append (entries n f) (f n ∷ []) d i (omega (arith, length-entries n f)) ∙ entry n f d i l
+    | no l ↦
+        let last : i ≡ n = omega arith in
+        rw last (getD-at (entries n f) (f n) [] d n (length-entries n f))
+  ]
+
+  -- one entry more
+  entries-on : (i : ℕ) (f : ℕ → A) (l : List A) (v : A) → i < length l → v ≡ f i → set (entries i f ++ drop i l) i v ≡ entries (i + 1) f ++ drop (i + 1) l
+  unfolding entries
+  entries-on i f l v h e =
+      rw (add-one i, drop-cons l i v h, set-at (entries i f) (getD l i v) (drop (suc i) l) v i (length-entries i f), e)
+      (sym (append-snoc (entries i f) (f i) (drop (suc i) l)))
+
+  -- of n entries of f the first i stand in the front of what was `before`
+  pub record Front (n : ℕ) (f : ℕ → A) (before : List A) (i : ℕ) (list : List A) : Type 0 where
+    pub within : i ≤ n
+    pub long : length list ≡ length before
+    pub is : list ≡ entries i f ++ drop i before
+
+  module _ (n : ℕ) (f : ℕ → A) (before : List A) where
+    pub front-start : Front n f before 0 before
+    unfolding entries
+    front-start = record { within = omega arith; long = refl; is = refl }
+
+    module _ {i : ℕ} {list : List A} (s : Front n f before i list) where
+      pub front-on : i < n → n ≤ length before → (v : A) → v ≡ f i → Front n f before (i + 1) (set list i v)
+      front-on h room v e =
+          record {
+            within = omega arith;
+            long = length-set list i v ∙ s .long;
+            is = ap (λ (l : List A). set l i v) (s .is) ∙ entries-on i f before v (omega arith) e;
+          }
+
+      pub front-end : n ≤ i → list ≡ entries n f ++ drop n before
+      front-end h = let end : i ≡ n = omega (arith, s .within) in rw end at (s .is)
+
+  -- the front of a list that starts with n entries of f, and as a part that the code takes
+  pub front : (n : ℕ) (f : ℕ → A) (rest : List A) → take n (entries n f ++ rest) ≡ entries n f
+  front n f rest = take-at (entries n f) rest n (length-entries n f)
+
+  pub front-taken : (n : ℕ) (f : ℕ → A) (rest : List A) {list : List A} → list ≡ entries n f ++ rest → take (n - 0) list ≡ entries n f
+  front-taken n f rest e = rw (sub-zero, e) (front n f rest)

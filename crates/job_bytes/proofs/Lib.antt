@@ -1,0 +1,4 @@
+mod Reading
+mod TwosComplement
+pub mod Entries
+pub mod Determined

@@ -1,0 +1,48 @@
+-- What is read so far is the number of the bytes from byte i on; the measure is i.
+use native.Mathlib.Omega.{arith}
+use borrow.Author.Needs.{needs}
+use Rattle.job_bytes.proofs.Reading.{Reading, reading-start, reading-room, reading-on, reading-end}
+use Rattle.job_bytes.proofs.number.number_at.Statement.{statement}
+use Rattle.job_bytes.proofs.number.number_at.Tie as tie
+
+abbrev Inv-loop : tie.InvT-loop
+Inv-loop bytes at width n₀ i₀ n i = Reading bytes at width i n
+
+abbrev μ-loop : tie.MeasureT-loop
+μ-loop bytes at width n₀ i₀ n i = i
+
+loop-holds : tie.Need-loop-holds Inv-loop μ-loop
+loop-holds c = reading-start _ _ _
+
+mul-n : tie.Need-mul-n Inv-loop μ-loop
+mul-n c = omega (arith, reading-room _ _ _ (c .before .loop .inv) (c .loop-test .taken) (c .before .before .before .pre .0))
+
+add-n : tie.Need-add-n Inv-loop μ-loop
+add-n c =
+    let turn = c .before .before in
+    omega (arith, reading-room _ _ _ (turn .before .loop .inv) (turn .loop-test .taken) (turn .before .before .before .pre .0), c .wide .ensures .1)
+
+loop-again : tie.Need-loop-again Inv-loop μ-loop
+loop-again c =
+    let turn = c .before .before in
+    reading-on _ _ _ (turn .before .loop .inv) (turn .loop-test .taken) _ (c .wide .ensures .0) (c .wide .ensures .1)
+
+returns : tie.Need-returns Inv-loop μ-loop
+returns c = reading-end _ _ _ (c .before .loop .inv) (c .loop-test .left)
+
+pub number-at-spec : {M : Type 1} → statement M
+number-at-spec =
+    tie.close
+    (tie.spec
+    Inv-loop
+    μ-loop
+    loop-holds
+    (λ c. search needs)
+    mul-n
+    (λ c. search needs)
+    (λ c. search needs)
+    (λ c κs. search needs)
+    add-n
+    (λ c. search needs)
+    loop-again
+    returns)

@@ -1,0 +1,98 @@
+-- What it means that the form of a job is accepted.
+use Prim.Native.Nat.{ℕ, _+_, _*_, _≤_}
+use mathlib.Core.Path.{_≡_}
+use mathlib.Core.Bool.{Bool, _||_, false, not}
+use mathlib.Core.List.{List}
+use borrow.Author.Tests.{eqb-true, ltb-false, not-false}
+use lib.ListN.{length}
+use lib.Dec.{eqb, ltb}
+use Rattle.game.proofs.Bools.{neither-first, neither-second}
+use Rattle.answers.specs.Answer.{accepted, _then_}
+use Rattle.answers.proofs.Accepted.{first-accepted, second-accepted, no-fault}
+use Rattle.job_bytes.specs.Format.{arcOffset, memberOffset, jobArcs, jobMembers, version, closing0, closing1}
+use Rattle.job_form.specs.Form.{Layout, fewestBytes, mostBytes, longestNote, sizeCheck, marksCheck, layoutCheck, formCheck}
+
+pub record Sized (size : ℕ) : Type 0 where
+  pub long : fewestBytes ≤ size
+  pub short : size ≤ mostBytes
+
+pub size-accepted : (size : ℕ) → sizeCheck size ≡ accepted → Sized size
+size-accepted size e =
+    let neither = no-fault (ltb size fewestBytes || ltb mostBytes size) 11 0 e in
+    record {
+      long = ltb-false size fewestBytes (neither-first (ltb size fewestBytes) (ltb mostBytes size) neither);
+      short = ltb-false mostBytes size (neither-second (ltb size fewestBytes) (ltb mostBytes size) neither);
+    }
+
+-- a test for unlike numbers that fails
+pub alike : (a b : ℕ) → not (eqb a b) ≡ false → a ≡ b
+alike a b e = eqb-true a b (not-false (eqb a b) e)
+
+layout-accepted : (bytes : List ℕ) → Sized (length bytes) → layoutCheck bytes ≡ accepted → Layout bytes
+layout-accepted bytes size e =
+    record {
+      long = size .long;
+      short = size .short;
+      note-short = ltb-false longestNote (arcOffset bytes) (neither-first long-note (apart || unended) none);
+      arcs-end = alike (memberOffset bytes) (arcOffset bytes + 8 * jobArcs bytes) (neither-first apart unended rest);
+      members-end = alike (memberOffset bytes + 16 * jobMembers bytes + 16) (length bytes) (neither-second apart unended rest);
+    }
+  where
+    long-note : Bool
+    long-note = ltb longestNote (arcOffset bytes)
+
+    apart : Bool
+    apart = not (eqb (memberOffset bytes) (arcOffset bytes + 8 * jobArcs bytes))
+
+    unended : Bool
+    unended = not (eqb (memberOffset bytes + 16 * jobMembers bytes + 16) (length bytes))
+
+    none : (long-note || (apart || unended)) ≡ false
+    none = no-fault (long-note || (apart || unended)) 13 0 e
+
+    rest : (apart || unended) ≡ false
+    rest = neither-second long-note (apart || unended) none
+
+-- version 1, and the closing bytes
+pub record Marks (bytes : List ℕ) : Type 0 where
+  pub version-is : version bytes ≡ 1
+  pub closing0-is : closing0 bytes ≡ 84
+  pub closing1-is : closing1 bytes ≡ 74
+
+marks-accepted : (bytes : List ℕ) → marksCheck bytes ≡ accepted → Marks bytes
+marks-accepted bytes e =
+    record {
+      version-is = alike (version bytes) 1 (neither-first unversioned (unclosed0 || unclosed1) none);
+      closing0-is = alike (closing0 bytes) 84 (neither-first unclosed0 unclosed1 rest);
+      closing1-is = alike (closing1 bytes) 74 (neither-second unclosed0 unclosed1 rest);
+    }
+  where
+    unversioned : Bool
+    unversioned = not (eqb (version bytes) 1)
+
+    unclosed0 : Bool
+    unclosed0 = not (eqb (closing0 bytes) 84)
+
+    unclosed1 : Bool
+    unclosed1 = not (eqb (closing1 bytes) 74)
+
+    none : (unversioned || (unclosed0 || unclosed1)) ≡ false
+    none = no-fault (unversioned || (unclosed0 || unclosed1)) 12 0 e
+
+    rest : (unclosed0 || unclosed1) ≡ false
+    rest = neither-second unversioned (unclosed0 || unclosed1) none
+
+module _ (bytes : List ℕ) (e : formCheck bytes ≡ accepted) where
+  after-size : (marksCheck bytes then layoutCheck bytes) ≡ accepted
+  unfolding formCheck
+  after-size = second-accepted (sizeCheck (length bytes)) (marksCheck bytes then layoutCheck bytes) e
+
+  pub form-marks : Marks bytes
+  form-marks = marks-accepted bytes (first-accepted (marksCheck bytes) (layoutCheck bytes) after-size)
+
+  pub form-layout : Layout bytes
+  unfolding formCheck
+  form-layout =
+      layout-accepted bytes
+      (size-accepted (length bytes) (first-accepted (sizeCheck (length bytes)) (marksCheck bytes then layoutCheck bytes) e))
+      (second-accepted (marksCheck bytes) (layoutCheck bytes) after-size)

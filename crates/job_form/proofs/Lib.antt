@@ -1,0 +1,4 @@
+pub mod Composed
+mod Rows
+pub mod FormAccepted
+pub mod SameJob

@@ -1,0 +1,47 @@
+use mathlib.Core.Path.{_≡_}
+use borrow.Author.Needs.{needs}
+use lib.ListN.{length}
+use denote.Ref.{now}
+use Rattle.answers.specs.Answer.{accepted}
+use Rattle.checks.proofs.Opened.{opened}
+use Rattle.job_form.specs.Form.{sizeCheck, formCheck}
+use Rattle.job_form.proofs.Composed.{stopped, went-on}
+use Rattle.job_form.proofs.FormAccepted.{size-accepted}
+use Rattle.job_form.proofs.check_form.Statement.{statement}
+use Rattle.job_form.proofs.check_form.Tie as tie
+
+returns : tie.Need-returns
+unfolding formCheck
+returns c = stopped _ (c .before .before .check-size .ensures) (c .enum-told2 .given .1)
+
+sized : (c : tie.After-enum-told) → sizeCheck (length (now (c .before .before .before .before .args .bytes))) ≡ accepted
+sized c = opened (c .before .before .check-size .ensures) (c .enum-told .given .1)
+
+check-marks-requires : tie.Need-check-marks-requires
+check-marks-requires c κs = size-accepted _ (sized c) .long
+
+returns-2 : tie.Need-returns-2
+unfolding formCheck
+returns-2 c = went-on (sized (c .before .before .before)) (stopped _ (c .before .before .check-marks .ensures) (c .enum-told4 .given .1))
+
+check-layout-requires : tie.Need-check-layout-requires
+check-layout-requires c κs = size-accepted _ (sized (c .before .before .before)) .long
+
+returns-3 : tie.Need-returns-3
+unfolding formCheck
+returns-3 c = went-on (sized (c .before .before .before .before)) (went-on (opened (c .before .before .before .check-marks .ensures) (c .before .enum-told3 .given .1)) (c .check-layout .ensures))
+
+pub check-form-spec : {M : Type 1} → statement M
+check-form-spec =
+    tie.close
+    (tie.spec
+    (λ c κs. search needs)
+    (λ c. search needs)
+    (λ c. search needs)
+    returns
+    check-marks-requires
+    (λ c. search needs)
+    (λ c. search needs)
+    returns-2
+    check-layout-requires
+    returns-3)

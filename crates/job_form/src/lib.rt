@@ -1,0 +1,117 @@
+// The form of a job: its size, its marks, its layout, and its fillers.
+use checks::Checked;
+use checks::refuse;
+use job_bytes::number_at;
+ghost use mathlib.Core.Path.{_≡_};
+ghost use mathlib.Core.Bool.{not};
+ghost use Prim.Native.Nat.{_+_, _*_, _≤_};
+ghost use lib.ListN.{length};
+ghost use lib.Dec.{eqb};
+ghost use Rattle.answers.specs.Answer.{fault};
+ghost use Rattle.checks.specs.Checked.{checkOf};
+ghost use Rattle.job_form.specs.Form.{Layout, sizeCheck, marksCheck, layoutCheck, formCheck, fillersFrom, fillersCheck};
+
+const FEWEST_BYTES: usize = 16;
+
+const MOST_BYTES: usize = 24_823;
+
+const LONGEST_NOTE: usize = 255;
+
+// 11.
+fn check_size(size: usize) -> Checked
+    ensures { λ r. ⌜ checkOf r ≡ sizeCheck size ⌝ }
+{
+    if size < FEWEST_BYTES {
+        return refuse(11, 0);
+    }
+    if MOST_BYTES < size {
+        return refuse(11, 0);
+    }
+    Checked::Accepted
+}
+
+// 12: the version and the closing bytes.
+fn check_marks(bytes: &[u8]) -> Checked
+    requires { ⌜ 16 ≤ length (now bytes) ⌝ }
+    ensures { λ r. ⌜ checkOf r ≡ marksCheck (now (bytes .entry)) ⌝ }
+{
+    let at = bytes.len() - 16;
+    if number_at(bytes, at + 12, 2) != 1 {
+        return refuse(12, 0);
+    }
+    if bytes[at + 14] != 0x54 {
+        return refuse(12, 0);
+    }
+    if bytes[at + 15] != 0x4A {
+        return refuse(12, 0);
+    }
+    Checked::Accepted
+}
+
+// 13: note, rows and trailer meet and end exactly.
+fn check_layout(bytes: &[u8]) -> Checked
+    requires { ⌜ 16 ≤ length (now bytes) ⌝ }
+    ensures { λ r. ⌜ checkOf r ≡ layoutCheck (now (bytes .entry)) ⌝ }
+{
+    let t = job_bytes::read_trailer(bytes);
+    if LONGEST_NOTE < t.arc_offset {
+        return refuse(13, 0);
+    }
+    if t.member_offset != t.arc_offset + 8 * t.arcs {
+        return refuse(13, 0);
+    }
+    if t.member_offset + 16 * t.members + 16 != bytes.len() {
+        return refuse(13, 0);
+    }
+    Checked::Accepted
+}
+
+// 11 to 13.
+pub fn check_form(bytes: &[u8]) -> Checked
+    ensures { λ r. ⌜ checkOf r ≡ formCheck (now (bytes .entry)) ⌝ }
+{
+    let size = check_size(bytes.len());
+    let Checked::Accepted = size else {
+        return size;
+    };
+    let marks = check_marks(bytes);
+    let Checked::Accepted = marks else {
+        return marks;
+    };
+    check_layout(bytes)
+}
+
+fn check_filler(filler: u64, arc: usize) -> Checked
+    ensures { λ r. ⌜ checkOf r ≡ fault (not (eqb filler 0)) 14 arc ⌝ }
+{
+    if filler == 0 {
+        Checked::Accepted
+    } else {
+        refuse(14, arc)
+    }
+}
+
+// 14 arc by arc, in the rows at an offset.
+fn check_rows(bytes: &[u8], offset: usize, arcs: usize) -> Checked
+    requires { ⌜ offset + 8 * arcs ≤ length (now bytes) ⌝ }
+    ensures { λ r. ⌜ checkOf r ≡ fillersFrom (now (bytes .entry)) offset 0 arcs ⌝ }
+{
+    let mut i = 0;
+    while i < arcs {
+        let found = check_filler(number_at(bytes, offset + 8 * i + 2, 2), i + 1);
+        let Checked::Accepted = found else {
+            return found;
+        };
+        i += 1;
+    }
+    Checked::Accepted
+}
+
+// 14.
+pub fn check_fillers(bytes: &[u8]) -> Checked
+    requires { ⌜ Layout (now bytes) ⌝ }
+    ensures { λ r. ⌜ checkOf r ≡ fillersCheck (now (bytes .entry)) ⌝ }
+{
+    let t = job_bytes::read_trailer(bytes);
+    check_rows(bytes, t.arc_offset, t.arcs)
+}
