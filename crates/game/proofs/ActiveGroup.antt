@@ -29,7 +29,7 @@ module _ (n : Network) (rooted : Rooted n) (end : MembersEnd n) (shares : List �
   of-members v i e = pick-no (plus (share shares (number n v))) e
 
   -- no group overpays more than the excess at the source
-  pub over-bound : (g : ℕ → Bool) → overpayment n shares g ≤ℤ pos (children n f 0)
+  over-bound : (g : ℕ → Bool) → overpayment n shares g ≤ℤ pos (children n f 0)
   over-bound g =
       less-le (overpayment n shares g) (pos (children n f 0)) (less-over n shares g) (less-parts (pos (children n f 0)))
       (omega (arith, excess-bound n rooted (over-at n shares) f act of-members excess active (byNumber n g)))
@@ -41,7 +41,7 @@ module _ (n : Network) (rooted : Rooted n) (end : MembersEnd n) (shares : List �
       (λ u j. pick-no (f u) (not-so (eqb (n .parent u) v) (λ t. clash (some-of (n .arcs) u (λ k. eqb (n .parent k) v) j t) (end v m))))
 
   -- an active member's share is positive
-  pub active-positive : (v : ℕ) → In (n .arcs) v → n .member v ≡ true → act v ≡ true → under-at n shares v ≡ 0
+  active-positive : (v : ℕ) → In (n .arcs) v → n .member v ≡ true → act v ≡ true → under-at n shares v ≡ 0
   active-positive v i m a =
       let own = pick-pos (n .member v) (plus (share shares (number n v)))
       (omega (arith, some-excess n rooted (over-at n shares) f act of-members excess active v i a, excess v i, no-children v i m)) in

@@ -91,7 +91,7 @@ module _ (g : ℕ → Bool) where
   part : ℕ → ℕ
   part i = word 64 (λ b. g (64 * i + b))
 
-  pub words-length : length (wordsOf g) ≡ 16
+  words-length : length (wordsOf g) ≡ 16
   unfolding wordsOf
   words-length = refl
 
@@ -120,7 +120,7 @@ module _ (g : ℕ → Bool) where
   pub bit-beyond : (j : ℕ) → 1024 ≤ j → bit (wordsOf g) j ≡ false
   bit-beyond j h = bit-past (wordsOf g) j (omega (arith, words-length))
 
-pub words-of-bits : (words : List ℕ) → length words ≡ 16 → ((i : ℕ) → getD words i 0 < 2 ^ 64) → words ≡ wordsOf (bit words)
+words-of-bits : (words : List ℕ) → length words ≡ 16 → ((i : ℕ) → getD words i 0 < 2 ^ 64) → words ≡ wordsOf (bit words)
 unfolding part
 words-of-bits words l small =
     words-are (bit words) words l (λ i h. word-is 64 _ (small i) ∙ word-same 64 _ _ (λ b k. sym (bit-at words i b k)))

@@ -88,7 +88,7 @@ module _ (n : Network) (rooted : Rooted n) (w f : ℕ → ℕ) (act : ℕ → Bo
       ]
 
   -- the arcs that the active members use are those of the active vertices
-  pub used-act : (v : ℕ) → In (n .arcs) v → used n act v ≡ act v
+  used-act : (v : ℕ) → In (n .arcs) v → used n act v ≡ act v
   used-act v i =
       same-test (used n act v) (act v)
       (λ h.
@@ -128,7 +128,7 @@ module _ (n : Network) (rooted : Rooted n) (w f : ℕ → ℕ) (act : ℕ → Bo
           ]
 
   -- a group that has as much uses every active vertex's arc
-  pub uses-active : (s : ℕ → Bool) → groupCost n s + children n f 0 ≤ sum (n .arcs) (λ v. pick (s v) (w v)) → (v : ℕ) → In (n .arcs) v → act v ≡ true → used n s v ≡ true
+  uses-active : (s : ℕ → Bool) → groupCost n s + children n f 0 ≤ sum (n .arcs) (λ v. pick (s v) (w v)) → (v : ℕ) → In (n .arcs) v → act v ≡ true → used n s v ≡ true
   uses-active s much =
       from-source n rooted (λ v. In (n .arcs) v → act v ≡ true → used n s v ≡ true)
       (λ i a. absurd (omega arith))

@@ -35,7 +35,7 @@ module _ (n : Network) where
         uses = and-second (g (s .which)) (user n k (s .which)) (s .passes);
       }
 
-  pub used-more : (g h : ℕ → Bool) (k : ℕ) → ((v : ℕ) → g v ≡ true → h v ≡ true) → used n g k ≡ true → used n h k ≡ true
+  used-more : (g h : ℕ → Bool) (k : ℕ) → ((v : ℕ) → g v ≡ true → h v ≡ true) → used n g k ≡ true → used n h k ≡ true
   used-more g h k sub u =
       let b = used-by g k u in used-of (record { by = b .by; within = b .within; chosen = sub (b .by) (b .chosen); uses = b .uses })
 

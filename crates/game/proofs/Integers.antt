@@ -26,13 +26,13 @@ less-sub a b =
     (λ (e : ltb a b ≡ false). rw e (omega (arith, ltb-false a b e)))
     (both (ltb a b))
 
-pub less-add : (x y : ℤ) {a b c d : ℕ} → Less x a b → Less y c d → Less (x +ℤ y) (a + c) (b + d)
+less-add : (x y : ℤ) {a b c d : ℕ} → Less x a b → Less y c d → Less (x +ℤ y) (a + c) (b + d)
 less-add (pos x) (pos y) h k = omega arith
 less-add (pos x) (negsuc y) h k = omega (arith, less-sub x (suc y))
 less-add (negsuc x) (pos y) h k = omega (arith, less-sub y (suc x))
 less-add (negsuc x) (negsuc y) h k = omega arith
 
-pub less-neg : (x : ℤ) {a b : ℕ} → Less x a b → Less (negℤ x) b a
+less-neg : (x : ℤ) {a b : ℕ} → Less x a b → Less (negℤ x) b a
 less-neg (pos zero) h = omega arith
 less-neg (pos (suc x)) h = omega arith
 less-neg (negsuc x) h = omega arith

@@ -35,7 +35,7 @@ unfolding size
 size-same zero f g e = refl
 size-same (suc n) f g e = ap₂ (λ (x : ℕ) (b : Bool). x + pick b 1) (size-same n f g (λ i h. e i (omega arith))) (e n (omega arith))
 
-pub size-part : (n : ℕ) (f g : ℕ → Bool) → ((i : ℕ) → i < n → f i ≡ true → g i ≡ true) → size n f ≤ size n g
+size-part : (n : ℕ) (f g : ℕ → Bool) → ((i : ℕ) → i < n → f i ≡ true → g i ≡ true) → size n f ≤ size n g
 unfolding size
 size-part zero f g h = omega arith
 size-part (suc n) f g h = omega (arith, size-part n f g (λ i l. h i (omega arith)), pick-mono (f n) (g n) 1 (h n (omega arith)))

@@ -26,7 +26,7 @@ module _ (t : Tree) (shares : List ℤ) (ok : Proposed t shares) where
   pub tree-ok : Accepted t
   tree-ok = tree-accepted t (first-accepted (treeCheck t) (proposalCheck (memberCount (network t)) shares) (ok .accepts))
 
-  pub proposal-ok : proposalCheck (memberCount (network t)) shares ≡ accepted
+  proposal-ok : proposalCheck (memberCount (network t)) shares ≡ accepted
   proposal-ok = second-accepted (treeCheck t) (proposalCheck (memberCount (network t)) shares) (ok .accepts)
 
   pub weights-bound : sum (length (t .parents)) (over-at (network t) shares) ≤ 2046000000000000

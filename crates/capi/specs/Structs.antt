@@ -1,0 +1,89 @@
+-- The struct of each answer, and the answer that a struct stands for. A refusal of 0 means that there is none.
+use Prim.Native.Nat.{ℕ, zero, suc}
+use mathlib.Core.List.{List}
+use lib.IntN.{pos}
+use Rattle.answers.specs.Answer.{Check, accepted, refused, Answer, value, refusal}
+use Rattle.answers.specs.Needs.{NeedsValue}
+use Rattle.answers.specs.GroupCost.{GroupCostValue}
+use Rattle.answers.specs.Audit.{Verdict, wrongTotal, objection, pass}
+use Rattle.answers.specs.Level.{LevelAnswer, split, refusal as notSplit}
+use Rattle.job.specs.Reader.{JobValue}
+use Rattle.capi.specs.declared.check.ZilqodurCheck.{ZilqodurCheck}
+use Rattle.capi.specs.declared.members.ZilqodurMembers.{ZilqodurMembers}
+use Rattle.capi.specs.declared.needs.ZilqodurNeeds.{ZilqodurNeeds}
+use Rattle.capi.specs.declared.group.ZilqodurGroup.{ZilqodurGroup}
+use Rattle.capi.specs.declared.verdict.ZilqodurAudit.{ZilqodurAudit}
+use Rattle.capi.specs.declared.split.ZilqodurLevel.{ZilqodurLevel}
+use Rattle.capi.specs.declared.read.ZilqodurJob.{ZilqodurJob}
+
+-- the value where the refusal's number is 0
+abbrev pub valueOr : {A : Type 0} → (number place : ℕ) → A → Answer A
+valueOr zero place x = value x
+valueOr (suc n) place x = refusal (suc n) place
+
+abbrev pub encodeCheck : Check → ZilqodurCheck
+encodeCheck accepted = record { refusal = 0; place = 0 }
+encodeCheck (refused number place) = record { refusal = number; place = place }
+
+-- nothing found where the refusal's number is 0
+abbrev pub acceptedOr : (number place : ℕ) → Check
+acceptedOr zero place = accepted
+acceptedOr (suc n) place = refused (suc n) place
+
+abbrev pub decodeCheck : ZilqodurCheck → Check
+decodeCheck s = acceptedOr (s .refusal) (s .place)
+
+abbrev pub encodeMembers : Answer ℕ → ZilqodurMembers
+encodeMembers (value n) = record { refusal = 0; place = 0; members = n }
+encodeMembers (refusal number place) = record { refusal = number; place = place; members = 0 }
+
+abbrev pub decodeMembers : ZilqodurMembers → Answer ℕ
+decodeMembers s = valueOr (s .refusal) (s .place) (s .members)
+
+abbrev pub encodeNeeds : Answer NeedsValue → ZilqodurNeeds
+encodeNeeds (value v) = record { refusal = 0; place = 0; whole = v .whole; members = v .members }
+encodeNeeds (refusal number place) = record { refusal = number; place = place; whole = 0; members = 0 }
+
+abbrev pub decodeNeeds : ZilqodurNeeds → Answer NeedsValue
+decodeNeeds s = valueOr (s .refusal) (s .place) (record { whole = s .whole; members = s .members })
+
+abbrev pub encodeGroup : Answer GroupCostValue → ZilqodurGroup
+encodeGroup (value v) = record { refusal = 0; place = 0; size = v .size; cost = v .cost }
+encodeGroup (refusal number place) = record { refusal = number; place = place; size = 0; cost = 0 }
+
+abbrev pub decodeGroup : ZilqodurGroup → Answer GroupCostValue
+decodeGroup s = valueOr (s .refusal) (s .place) (record { size = s .size; cost = s .cost })
+
+-- the verdict is 0 for pass, 1 for a wrong total, 2 for an objection
+abbrev pub encodeAudit : Answer Verdict → List ℕ → ZilqodurAudit
+encodeAudit (value pass) words = record { refusal = 0; place = 0; verdict = 0; difference = pos 0; amount = 0; size = 0; group = words }
+encodeAudit (value (wrongTotal difference)) words = record { refusal = 0; place = 0; verdict = 1; difference = difference; amount = 0; size = 0; group = words }
+encodeAudit (value (objection amount size)) words = record { refusal = 0; place = 0; verdict = 2; difference = pos 0; amount = amount; size = size; group = words }
+encodeAudit (refusal number place) words = record { refusal = number; place = place; verdict = 0; difference = pos 0; amount = 0; size = 0; group = words }
+
+abbrev pub verdictOf : ZilqodurAudit → ℕ → Verdict
+verdictOf s zero = pass
+verdictOf s (suc zero) = wrongTotal (s .difference)
+verdictOf s (suc (suc n)) = objection (s .amount) (s .size)
+
+abbrev pub decodeAudit : ZilqodurAudit → Answer Verdict
+decodeAudit s = valueOr (s .refusal) (s .place) (verdictOf s (s .verdict))
+
+abbrev pub encodeLevel : LevelAnswer → ZilqodurLevel
+encodeLevel (split members) = record { refusal = 0; place = 0; shortfall = 0; members = members }
+encodeLevel (notSplit number place shortfall) = record { refusal = number; place = place; shortfall = shortfall; members = 0 }
+
+-- a split where the refusal's number is 0
+abbrev pub splitOr : (number place shortfall members : ℕ) → LevelAnswer
+splitOr zero place shortfall members = split members
+splitOr (suc n) place shortfall members = notSplit (suc n) place shortfall
+
+abbrev pub decodeLevel : ZilqodurLevel → LevelAnswer
+decodeLevel s = splitOr (s .refusal) (s .place) (s .shortfall) (s .members)
+
+abbrev pub encodeJob : Answer JobValue → ZilqodurJob
+encodeJob (value v) = record { refusal = 0; place = 0; arcs = v .arcs; members = v .members; note = v .note }
+encodeJob (refusal number place) = record { refusal = number; place = place; arcs = 0; members = 0; note = 0 }
+
+abbrev pub decodeJob : ZilqodurJob → Answer JobValue
+decodeJob s = valueOr (s .refusal) (s .place) (record { arcs = s .arcs; members = s .members; note = s .note })

@@ -1,0 +1,74 @@
+/* Audits and splits document 01's tree T. */
+#include "zilqodur.h"
+
+#include <inttypes.h>
+#include <stdio.h>
+
+#define ARCS 4
+#define MEMBERS 3
+
+static const uint16_t parents[ARCS] = {0, 1, 1, 0};
+static const uint32_t costs[ARCS] = {6, 1, 5, 4};
+
+static void print_refusal(const char *name, uint32_t refusal, size_t place) {
+    printf("%s refused %" PRIu32 " at %zu", name, refusal, place);
+}
+
+static void audit(const int64_t proposal[MEMBERS]) {
+    ZilqodurAudit a = zilqodur_audit(parents, ARCS, costs, ARCS, proposal, MEMBERS);
+    if (a.refusal != ZILQODUR_NO_REFUSAL) {
+        print_refusal("audit", a.refusal, a.place);
+    } else if (a.verdict == ZILQODUR_WRONG_TOTAL) {
+        printf("audit total %" PRId64, a.difference);
+    } else if (a.verdict == ZILQODUR_OBJECTION) {
+        printf("audit group %" PRIu64 " of %zu:", a.amount, a.size);
+        for (size_t j = 0; j < MEMBERS; j++) {
+            if ((a.group[j / 64] >> (j % 64)) & 1) {
+                printf(" %zu", j);
+            }
+        }
+    } else {
+        printf("audit pass");
+    }
+    printf("\n");
+}
+
+static void print_shares(const char *name, const uint64_t shares[MEMBERS]) {
+    printf("%s", name);
+    for (size_t j = 0; j < MEMBERS; j++) {
+        printf(" %" PRIu64, shares[j]);
+    }
+}
+
+static void level(const uint64_t caps[MEMBERS]) {
+    uint64_t shares[MEMBERS] = {0};
+    ZilqodurLevel l = zilqodur_split_level(parents, ARCS, costs, ARCS, caps, MEMBERS, shares, MEMBERS);
+    if (l.refusal != ZILQODUR_NO_REFUSAL) {
+        print_refusal("level", l.refusal, l.place);
+        printf(" short %" PRIu64, l.shortfall);
+    } else {
+        print_shares("level", shares);
+    }
+    printf("\n");
+}
+
+static void by_arc(void) {
+    uint64_t shares[MEMBERS] = {0};
+    ZilqodurMembers m = zilqodur_split_by_arc(parents, ARCS, costs, ARCS, shares, MEMBERS);
+    if (m.refusal != ZILQODUR_NO_REFUSAL) {
+        print_refusal("by-arc", m.refusal, m.place);
+    } else {
+        print_shares("by-arc", shares);
+    }
+    printf("\n");
+}
+
+int main(void) {
+    audit((const int64_t[MEMBERS]){7, 5, 4});
+    audit((const int64_t[MEMBERS]){8, 4, 4});
+    audit((const int64_t[MEMBERS]){8, 4, 5});
+    level((const uint64_t[MEMBERS]){100, 100, 100});
+    level((const uint64_t[MEMBERS]){3, 8, 100});
+    by_arc();
+    return 0;
+}

@@ -1,0 +1,165 @@
+/* Zilqodur: sharing the cost of a rooted pipe tree among its members. All amounts are whole units, exactly.
+ *
+ * Tree. Vertex 0 is the source. Arc k, for k from 1 to m, enters vertex k from its parent, a vertex numbered below k. m is 1 to 1,023.
+ * Entry 0 of `parents` and of `costs` belongs to arc 1; a cost is 0 to 1,000,000,000. A vertex other than 0 without a child is a
+ * member. Members are numbered from 0 in rising vertex number. An arc's users are the members at or below the vertex that it enters.
+ *
+ * Group. Sixteen 64-bit words: member j is bit j % 64 of word j / 64, bit 0 being the least significant.
+ *
+ * Answer. Each function answers a struct. `refusal` is 0 where there is none, else one of enum ZilqodurRefusal; `place` is the arc, member
+ * or bit where the fault stands, 0 for a number without a place. A field for which the answer has no value is 0. So after a refusal
+ * every field but `refusal` and `place` is 0, except `shortfall` with refusal 9.
+ *
+ * Lists. A list is a pointer and the number of its elements. A function writes only to its lists without `const`, and to none of them
+ * when it refuses. Any numbers may stand in a list; what a function cannot use it refuses.
+ *
+ * What a caller must see to, since no function can test it:
+ *   - every pointer is non-null and aligned for its type, also where the number of elements is 0;
+ *   - a list has at least as many elements as its number says, `group` sixteen words;
+ *   - no two lists of one call overlap;
+ *   - nobody else writes to the lists during the call.
+ *
+ * No function keeps anything between calls, allocates memory or does input or output; calls from several threads are safe. Link with
+ * target/staticlib/libcapi.a (x86-64 Linux). */
+#ifndef ZILQODUR_H
+#define ZILQODUR_H
+
+#include <stddef.h>
+#include <stdint.h>
+
+#ifdef __cplusplus
+extern "C" {
+#endif
+
+/* The place in brackets; without one it is 0. */
+enum ZilqodurRefusal {
+    ZILQODUR_NO_REFUSAL = 0,
+    ZILQODUR_ARC_COUNT = 1,      /* the parent list has 0 or more than 1,023 entries */
+    ZILQODUR_TREE_LENGTHS = 2,   /* parent and cost lists differ in length */
+    ZILQODUR_PARENT = 3,         /* a parent is not below its arc's number [arc] */
+    ZILQODUR_COST = 4,           /* a cost is above 1,000,000,000 [arc] */
+    ZILQODUR_GROUP_BIT = 5,      /* a bit stands at or beyond the number of members [lowest such bit] */
+    ZILQODUR_LIST_LENGTH = 6,    /* the length of caps or proposal is not the number of members */
+    ZILQODUR_LIST_RANGE = 7,     /* a cap or a share is outside its range [lowest such member] */
+    ZILQODUR_OUTPUT_LENGTH = 8,  /* the output list's length is not exactly what is written */
+    ZILQODUR_CAPS_SHORT = 9,     /* the caps of an arc's users fall short of its need [arc], with the shortfall */
+    ZILQODUR_JOB_ROOM = 10,      /* a list for the job's values has fewer than 1,023 entries */
+    ZILQODUR_JOB_SIZE = 11,      /* a job has fewer than 16 or more than 24,823 bytes */
+    ZILQODUR_JOB_MARKS = 12,     /* wrong version or closing bytes */
+    ZILQODUR_JOB_LAYOUT = 13,    /* arc offset above 255, or rows and trailer do not meet and end exactly */
+    ZILQODUR_JOB_FILLER = 14,    /* a filler is not zero [arc] */
+    ZILQODUR_JOB_MEMBERS = 15    /* the job's number of members differs from its tree's */
+};
+
+/* The greatest number of arcs, and so of members, of a tree: the number of entries that zilqodur_read_job asks of each of its four lists. */
+#define ZILQODUR_MOST_ARCS 1023
+
+typedef struct ZilqodurCheck {
+    uint32_t refusal;
+    size_t place;
+} ZilqodurCheck;
+
+typedef struct ZilqodurMembers {
+    uint32_t refusal;
+    size_t place;
+    size_t members; /* the number of members */
+} ZilqodurMembers;
+
+typedef struct ZilqodurNeeds {
+    uint32_t refusal;
+    size_t place;
+    uint64_t whole; /* the sum of all costs */
+    size_t members; /* the number of members */
+} ZilqodurNeeds;
+
+typedef struct ZilqodurGroup {
+    uint32_t refusal;
+    size_t place;
+    size_t size;   /* the number of members in the group */
+    uint64_t cost; /* the sum of the costs of all arcs that at least one of them uses */
+} ZilqodurGroup;
+
+/* Pass also stands in `verdict` when the audit is refused: look at `refusal` first. */
+enum ZilqodurVerdict {
+    ZILQODUR_PASS = 0,        /* the total is right and no group pays more than its cost */
+    ZILQODUR_WRONG_TOTAL = 1, /* the shares do not add up to the whole cost */
+    ZILQODUR_OBJECTION = 2    /* the total is right and some group pays more than its cost */
+};
+
+typedef struct ZilqodurAudit {
+    uint32_t refusal;
+    size_t place;
+    uint32_t verdict;   /* one of enum ZilqodurVerdict */
+    int64_t difference; /* wrong total: sum of the shares less the whole cost */
+    uint64_t amount;    /* objection: the greatest overpayment of a group */
+    size_t size;        /* objection: the number of members in `group` */
+    uint64_t group[16]; /* objection: of the groups that overpay the amount, the one with fewest members */
+} ZilqodurAudit;
+
+typedef struct ZilqodurLevel {
+    uint32_t refusal;
+    size_t place;
+    uint64_t shortfall; /* refusal 9: the arc's need less what the caps of its users add up to */
+    size_t members;     /* the number of members */
+} ZilqodurLevel;
+
+typedef struct ZilqodurJob {
+    uint32_t refusal;
+    size_t place;
+    size_t arcs;    /* the number of arcs: entries written to `parents` and to `costs` */
+    size_t members; /* the number of members: entries written to `caps` and to `proposals` */
+    size_t note;    /* the length of the note, which stands at the job's start */
+} ZilqodurJob;
+
+/* Whether the lists describe a tree. Refusals 1 to 4; 3 and 4 are looked for arc by arc. */
+ZilqodurCheck zilqodur_check_tree(const uint16_t *parents, size_t parent_count, const uint32_t *costs, size_t cost_count);
+
+/* Whether there is one cap for each of so many members, each from 0 to 2,000,000,000,000. Refusals 6, 7. */
+ZilqodurCheck zilqodur_check_caps(size_t members, const uint64_t *caps, size_t cap_count);
+
+/* Whether there is one share for each of so many members, each from -2,000,000,000,000 to 2,000,000,000,000. Refusals 6, 7. */
+ZilqodurCheck zilqodur_check_proposal(size_t members, const int64_t *proposal, size_t share_count);
+
+/* The number of members. Refusals 1 to 4. */
+ZilqodurMembers zilqodur_count_members(const uint16_t *parents, size_t parent_count, const uint32_t *costs, size_t cost_count);
+
+/* Writes the members' vertices, in rising order. `out` has one entry a member. Refusals 1 to 4, 8. */
+ZilqodurMembers zilqodur_list_members(const uint16_t *parents, size_t parent_count, const uint32_t *costs, size_t cost_count,
+                                      uint16_t *out, size_t out_count);
+
+/* Writes each arc's need: its cost plus the costs of all arcs below it. `out` has one entry an arc, entry 0 for arc 1.
+ * Refusals 1 to 4, 8. */
+ZilqodurNeeds zilqodur_list_needs(const uint16_t *parents, size_t parent_count, const uint32_t *costs, size_t cost_count,
+                                  uint64_t *out, size_t out_count);
+
+/* The size and the cost of a group, which is sixteen words. Refusals 1 to 4, 5. */
+ZilqodurGroup zilqodur_group_cost(const uint16_t *parents, size_t parent_count, const uint32_t *costs, size_t cost_count,
+                                  const uint64_t group[16]);
+
+/* Whether the proposal adds up to the whole cost and, if so, whether some group pays more than it costs. `proposal` has one share a member,
+ * each from -2,000,000,000,000 to 2,000,000,000,000. Refusals 1 to 4, 6, 7. */
+ZilqodurAudit zilqodur_audit(const uint16_t *parents, size_t parent_count, const uint32_t *costs, size_t cost_count,
+                             const int64_t *proposal, size_t share_count);
+
+/* Writes the level split: arcs from m down to 1, each unit of an arc's cost to the user with the smallest share among users below their
+ * cap, ties to the lowest member number. `caps` has one cap a member, each from 0 to 2,000,000,000,000; `out` has one entry a member.
+ * Refusals 1 to 4, 6, 7, 8, 9; 9 is at the first arc in this order whose users' caps add up to less than its need. */
+ZilqodurLevel zilqodur_split_level(const uint16_t *parents, size_t parent_count, const uint32_t *costs, size_t cost_count,
+                                   const uint64_t *caps, size_t cap_count, uint64_t *out, size_t out_count);
+
+/* Writes the by-arc split: an arc with k users and cost c gives each user c / k, and one unit more to the c % k lowest-numbered users.
+ * `out` has one entry a member. Refusals 1 to 4, 8. */
+ZilqodurMembers zilqodur_split_by_arc(const uint16_t *parents, size_t parent_count, const uint32_t *costs, size_t cost_count,
+                                      uint64_t *out, size_t out_count);
+
+/* Reads a job's bytes into the front of the four lists and keeps their other entries. Each list has at least ZILQODUR_MOST_ARCS entries.
+ * The entries that it writes no other function refuses by 1 to 4, 6 or 7. Refusals, in this order: 10 to 14, 1, 3, 4, 15, 7 on caps,
+ * 7 on proposals. */
+ZilqodurJob zilqodur_read_job(const uint8_t *bytes, size_t byte_count, uint16_t *parents, size_t parent_count, uint32_t *costs,
+                              size_t cost_count, uint64_t *caps, size_t cap_count, int64_t *proposals, size_t proposal_count);
+
+#ifdef __cplusplus
+}
+#endif
+
+#endif

@@ -1,0 +1,274 @@
+//! One call of an entry compared with the reference: the answer, and every
+//! lent list with the canaries around it.
+
+use crate::ffi::{self, *};
+use crate::job;
+use crate::lent::Lent;
+use crate::reference::{self, Answer, Refusal, Tree, Verdict};
+use crate::tally::Tally;
+
+fn check(answer: Answer<()>) -> ZilqodurCheck {
+    match answer {
+        Ok(()) => ZilqodurCheck::default(),
+        Err(Refusal { number, place, .. }) => ZilqodurCheck {
+            refusal: number,
+            place,
+        },
+    }
+}
+
+fn members(answer: Answer<usize>) -> ZilqodurMembers {
+    match answer {
+        Ok(members) => ZilqodurMembers {
+            members,
+            ..Default::default()
+        },
+        Err(r) => ZilqodurMembers {
+            refusal: r.number,
+            place: r.place,
+            members: 0,
+        },
+    }
+}
+
+/// The list after a call: what is written, or on a refusal the list as lent.
+fn written<T: Clone>(before: &[T], answer: Answer<Vec<T>>) -> Vec<T> {
+    answer.unwrap_or_else(|_| before.to_vec())
+}
+
+pub fn check_caps(tally: &mut Tally, count: usize, caps: &[u64]) {
+    let lent = Lent::new(caps);
+    let given = ffi::check_caps(count, lent.list());
+    let expected = check(reference::check_caps(count, caps));
+    tally.case(
+        "check_caps",
+        expected.refusal,
+        [given, expected],
+        lent.holds(caps),
+    );
+}
+
+pub fn check_proposal(tally: &mut Tally, count: usize, proposal: &[i64]) {
+    let lent = Lent::new(proposal);
+    let given = ffi::check_proposal(count, lent.list());
+    let expected = check(reference::check_proposal(count, proposal));
+    tally.case(
+        "check_proposal",
+        expected.refusal,
+        [given, expected],
+        lent.holds(proposal),
+    );
+}
+
+/// A tree as handed in, checked or not.
+pub struct Network {
+    pub parents: Vec<u16>,
+    pub costs: Vec<u32>,
+}
+
+impl Network {
+    pub fn tree(&self) -> Answer<Tree> {
+        Tree::new(&self.parents, &self.costs)
+    }
+
+    fn lend(&self) -> (Lent<u16>, Lent<u32>) {
+        (Lent::new(&self.parents), Lent::new(&self.costs))
+    }
+
+    fn kept(&self, p: &Lent<u16>, c: &Lent<u32>) -> bool {
+        p.holds(&self.parents) && c.holds(&self.costs)
+    }
+
+    pub fn check_tree(&self, tally: &mut Tally) {
+        let (p, c) = self.lend();
+        let given = ffi::check_tree(p.list(), c.list());
+        let expected = check(reference::check_tree(&self.parents, &self.costs));
+        tally.case(
+            "check_tree",
+            expected.refusal,
+            [given, expected],
+            self.kept(&p, &c),
+        );
+    }
+
+    pub fn count_members(&self, tally: &mut Tally) {
+        let (p, c) = self.lend();
+        let given = ffi::count_members(p.list(), c.list());
+        let expected = members(self.tree().map(|tree| tree.members.len()));
+        tally.case(
+            "count_members",
+            expected.refusal,
+            [given, expected],
+            self.kept(&p, &c),
+        );
+    }
+
+    pub fn list_members(&self, tally: &mut Tally, out: &[u16]) {
+        let answer = reference::list_members(&self.parents, &self.costs, out.len());
+        let (p, c) = self.lend();
+        let mut lent = Lent::new(out);
+        let given = ffi::list_members(p.list(), c.list(), lent.list_mut());
+        let expected = members(answer.as_ref().map(Vec::len).map_err(|&r| r));
+        let lists = self.kept(&p, &c) && lent.holds(&written(out, answer));
+        tally.case("list_members", expected.refusal, [given, expected], lists);
+    }
+
+    pub fn list_needs(&self, tally: &mut Tally, out: &[u64]) {
+        let answer = reference::list_needs(&self.parents, &self.costs, out.len());
+        let (p, c) = self.lend();
+        let mut lent = Lent::new(out);
+        let given = ffi::list_needs(p.list(), c.list(), lent.list_mut());
+        let expected = match &answer {
+            Ok((tree, _)) => ZilqodurNeeds {
+                whole: tree.whole(),
+                members: tree.members.len(),
+                ..Default::default()
+            },
+            Err(r) => ZilqodurNeeds {
+                refusal: r.number,
+                place: r.place,
+                ..Default::default()
+            },
+        };
+        let needs = answer.map(|(_, needs)| needs);
+        let lists = self.kept(&p, &c) && lent.holds(&written(out, needs));
+        tally.case("list_needs", expected.refusal, [given, expected], lists);
+    }
+
+    pub fn group_cost(&self, tally: &mut Tally, group: &[u64; 16]) {
+        let (p, c) = self.lend();
+        let lent = Lent::new(group);
+        let given = ffi::group_cost(p.list(), c.list(), lent.list().try_into().unwrap());
+        let expected = match reference::group_cost(&self.parents, &self.costs, group) {
+            Ok((size, cost)) => ZilqodurGroup {
+                size,
+                cost,
+                ..Default::default()
+            },
+            Err(r) => ZilqodurGroup {
+                refusal: r.number,
+                place: r.place,
+                ..Default::default()
+            },
+        };
+        let lists = self.kept(&p, &c) && lent.holds(group);
+        tally.case("group_cost", expected.refusal, [given, expected], lists);
+    }
+
+    pub fn audit(&self, tally: &mut Tally, proposal: &[i64]) {
+        let (p, c) = self.lend();
+        let lent = Lent::new(proposal);
+        let given = ffi::audit(p.list(), c.list(), lent.list());
+        let mut expected = ZilqodurAudit::default();
+        match reference::audit(&self.parents, &self.costs, proposal) {
+            Ok(Verdict::Pass) => (),
+            Ok(Verdict::WrongTotal(difference)) => {
+                expected.verdict = 1;
+                expected.difference = difference;
+            }
+            Ok(Verdict::Objection(amount, group)) => {
+                expected.verdict = 2;
+                expected.amount = amount;
+                expected.size = group.len();
+                group
+                    .iter()
+                    .for_each(|j| expected.group[j / 64] |= 1 << (j % 64));
+            }
+            Err(r) => (expected.refusal, expected.place) = (r.number, r.place),
+        }
+        let lists = self.kept(&p, &c) && lent.holds(proposal);
+        tally.case("audit", expected.refusal, [given, expected], lists);
+    }
+
+    pub fn split_level(&self, tally: &mut Tally, caps: &[u64], out: &[u64]) {
+        let answer = reference::split_level(&self.parents, &self.costs, caps, out.len());
+        let (p, c) = self.lend();
+        let (limits, mut lent) = (Lent::new(caps), Lent::new(out));
+        let given = ffi::split_level(p.list(), c.list(), limits.list(), lent.list_mut());
+        let expected = match &answer {
+            Ok(shares) => ZilqodurLevel {
+                members: shares.len(),
+                ..Default::default()
+            },
+            Err(r) => ZilqodurLevel {
+                refusal: r.number,
+                place: r.place,
+                shortfall: r.shortfall,
+                members: 0,
+            },
+        };
+        let lists = self.kept(&p, &c) && limits.holds(caps) && lent.holds(&written(out, answer));
+        tally.case("split_level", expected.refusal, [given, expected], lists);
+    }
+
+    pub fn split_by_arc(&self, tally: &mut Tally, out: &[u64]) {
+        let answer = reference::split_by_arc(&self.parents, &self.costs, out.len());
+        let (p, c) = self.lend();
+        let mut lent = Lent::new(out);
+        let given = ffi::split_by_arc(p.list(), c.list(), lent.list_mut());
+        let expected = members(answer.as_ref().map(Vec::len).map_err(|&r| r));
+        let lists = self.kept(&p, &c) && lent.holds(&written(out, answer));
+        tally.case("split_by_arc", expected.refusal, [given, expected], lists);
+    }
+}
+
+/// The four lists lent to the job reader.
+pub struct JobLists {
+    pub parents: Vec<u16>,
+    pub costs: Vec<u32>,
+    pub caps: Vec<u64>,
+    pub proposals: Vec<i64>,
+}
+
+fn front<T: Clone>(list: &mut [T], rows: &[T]) {
+    list[..rows.len()].clone_from_slice(rows);
+}
+
+pub fn read_job(tally: &mut Tally, bytes: &[u8], mut lists: JobLists) {
+    let lengths = [
+        lists.parents.len(),
+        lists.costs.len(),
+        lists.caps.len(),
+        lists.proposals.len(),
+    ];
+    let (lent, mut p, mut c) = (
+        Lent::new(bytes),
+        Lent::new(&lists.parents),
+        Lent::new(&lists.costs),
+    );
+    let (mut caps, mut proposals) = (Lent::new(&lists.caps), Lent::new(&lists.proposals));
+    let given = ffi::read_job(
+        lent.list(),
+        p.list_mut(),
+        c.list_mut(),
+        caps.list_mut(),
+        proposals.list_mut(),
+    );
+    let expected = match job::read(bytes, lengths) {
+        Ok(job) => {
+            front(&mut lists.parents, &job.parents);
+            front(&mut lists.costs, &job.costs);
+            front(&mut lists.caps, &job.caps);
+            front(&mut lists.proposals, &job.proposals);
+            ZilqodurJob {
+                arcs: job.parents.len(),
+                members: job.caps.len(),
+                note: job.note.len(),
+                ..Default::default()
+            }
+        }
+        Err(r) => ZilqodurJob {
+            refusal: r.number,
+            place: r.place,
+            ..Default::default()
+        },
+    };
+    let arc_lists = p.holds(&lists.parents) && c.holds(&lists.costs);
+    let member_lists = caps.holds(&lists.caps) && proposals.holds(&lists.proposals);
+    tally.case(
+        "read_job",
+        expected.refusal,
+        [given, expected],
+        lent.holds(bytes) && arc_lists && member_lists,
+    );
+}

@@ -1,0 +1,268 @@
+//! The archive's C interface, and the same calls on slices.
+
+#[repr(C)]
+#[derive(Clone, Copy, Debug, Default, PartialEq)]
+pub struct ZilqodurCheck {
+    pub refusal: u32,
+    pub place: usize,
+}
+
+#[repr(C)]
+#[derive(Clone, Copy, Debug, Default, PartialEq)]
+pub struct ZilqodurMembers {
+    pub refusal: u32,
+    pub place: usize,
+    pub members: usize,
+}
+
+#[repr(C)]
+#[derive(Clone, Copy, Debug, Default, PartialEq)]
+pub struct ZilqodurNeeds {
+    pub refusal: u32,
+    pub place: usize,
+    pub whole: u64,
+    pub members: usize,
+}
+
+#[repr(C)]
+#[derive(Clone, Copy, Debug, Default, PartialEq)]
+pub struct ZilqodurGroup {
+    pub refusal: u32,
+    pub place: usize,
+    pub size: usize,
+    pub cost: u64,
+}
+
+/// The verdict is 0 for a pass, 1 for a wrong total, 2 for an objection.
+#[repr(C)]
+#[derive(Clone, Copy, Debug, Default, PartialEq)]
+pub struct ZilqodurAudit {
+    pub refusal: u32,
+    pub place: usize,
+    pub verdict: u32,
+    pub difference: i64,
+    pub amount: u64,
+    pub size: usize,
+    pub group: [u64; 16],
+}
+
+#[repr(C)]
+#[derive(Clone, Copy, Debug, Default, PartialEq)]
+pub struct ZilqodurLevel {
+    pub refusal: u32,
+    pub place: usize,
+    pub shortfall: u64,
+    pub members: usize,
+}
+
+#[repr(C)]
+#[derive(Clone, Copy, Debug, Default, PartialEq)]
+pub struct ZilqodurJob {
+    pub refusal: u32,
+    pub place: usize,
+    pub arcs: usize,
+    pub members: usize,
+    pub note: usize,
+}
+
+unsafe extern "C" {
+    fn zilqodur_check_tree(
+        parents: *const u16,
+        parents_len: usize,
+        costs: *const u32,
+        costs_len: usize,
+    ) -> ZilqodurCheck;
+    fn zilqodur_check_caps(members: usize, caps: *const u64, caps_len: usize) -> ZilqodurCheck;
+    fn zilqodur_check_proposal(
+        members: usize,
+        proposal: *const i64,
+        proposal_len: usize,
+    ) -> ZilqodurCheck;
+    fn zilqodur_count_members(
+        parents: *const u16,
+        parents_len: usize,
+        costs: *const u32,
+        costs_len: usize,
+    ) -> ZilqodurMembers;
+    fn zilqodur_list_members(
+        parents: *const u16,
+        parents_len: usize,
+        costs: *const u32,
+        costs_len: usize,
+        out: *mut u16,
+        out_len: usize,
+    ) -> ZilqodurMembers;
+    fn zilqodur_list_needs(
+        parents: *const u16,
+        parents_len: usize,
+        costs: *const u32,
+        costs_len: usize,
+        out: *mut u64,
+        out_len: usize,
+    ) -> ZilqodurNeeds;
+    fn zilqodur_group_cost(
+        parents: *const u16,
+        parents_len: usize,
+        costs: *const u32,
+        costs_len: usize,
+        group: *const [u64; 16],
+    ) -> ZilqodurGroup;
+    fn zilqodur_audit(
+        parents: *const u16,
+        parents_len: usize,
+        costs: *const u32,
+        costs_len: usize,
+        proposal: *const i64,
+        proposal_len: usize,
+    ) -> ZilqodurAudit;
+    fn zilqodur_split_level(
+        parents: *const u16,
+        parents_len: usize,
+        costs: *const u32,
+        costs_len: usize,
+        caps: *const u64,
+        caps_len: usize,
+        out: *mut u64,
+        out_len: usize,
+    ) -> ZilqodurLevel;
+    fn zilqodur_split_by_arc(
+        parents: *const u16,
+        parents_len: usize,
+        costs: *const u32,
+        costs_len: usize,
+        out: *mut u64,
+        out_len: usize,
+    ) -> ZilqodurMembers;
+    fn zilqodur_read_job(
+        bytes: *const u8,
+        bytes_len: usize,
+        parents: *mut u16,
+        parents_len: usize,
+        costs: *mut u32,
+        costs_len: usize,
+        caps: *mut u64,
+        caps_len: usize,
+        proposals: *mut i64,
+        proposals_len: usize,
+    ) -> ZilqodurJob;
+}
+
+// Safe: the pointers and lengths are those of live slices that do not overlap.
+
+pub fn check_tree(parents: &[u16], costs: &[u32]) -> ZilqodurCheck {
+    unsafe { zilqodur_check_tree(parents.as_ptr(), parents.len(), costs.as_ptr(), costs.len()) }
+}
+
+pub fn check_caps(members: usize, caps: &[u64]) -> ZilqodurCheck {
+    unsafe { zilqodur_check_caps(members, caps.as_ptr(), caps.len()) }
+}
+
+pub fn check_proposal(members: usize, proposal: &[i64]) -> ZilqodurCheck {
+    unsafe { zilqodur_check_proposal(members, proposal.as_ptr(), proposal.len()) }
+}
+
+pub fn count_members(parents: &[u16], costs: &[u32]) -> ZilqodurMembers {
+    unsafe { zilqodur_count_members(parents.as_ptr(), parents.len(), costs.as_ptr(), costs.len()) }
+}
+
+pub fn list_members(parents: &[u16], costs: &[u32], out: &mut [u16]) -> ZilqodurMembers {
+    unsafe {
+        zilqodur_list_members(
+            parents.as_ptr(),
+            parents.len(),
+            costs.as_ptr(),
+            costs.len(),
+            out.as_mut_ptr(),
+            out.len(),
+        )
+    }
+}
+
+pub fn list_needs(parents: &[u16], costs: &[u32], out: &mut [u64]) -> ZilqodurNeeds {
+    unsafe {
+        zilqodur_list_needs(
+            parents.as_ptr(),
+            parents.len(),
+            costs.as_ptr(),
+            costs.len(),
+            out.as_mut_ptr(),
+            out.len(),
+        )
+    }
+}
+
+pub fn group_cost(parents: &[u16], costs: &[u32], group: &[u64; 16]) -> ZilqodurGroup {
+    unsafe {
+        zilqodur_group_cost(
+            parents.as_ptr(),
+            parents.len(),
+            costs.as_ptr(),
+            costs.len(),
+            group,
+        )
+    }
+}
+
+pub fn audit(parents: &[u16], costs: &[u32], proposal: &[i64]) -> ZilqodurAudit {
+    unsafe {
+        zilqodur_audit(
+            parents.as_ptr(),
+            parents.len(),
+            costs.as_ptr(),
+            costs.len(),
+            proposal.as_ptr(),
+            proposal.len(),
+        )
+    }
+}
+
+pub fn split_level(parents: &[u16], costs: &[u32], caps: &[u64], out: &mut [u64]) -> ZilqodurLevel {
+    unsafe {
+        zilqodur_split_level(
+            parents.as_ptr(),
+            parents.len(),
+            costs.as_ptr(),
+            costs.len(),
+            caps.as_ptr(),
+            caps.len(),
+            out.as_mut_ptr(),
+            out.len(),
+        )
+    }
+}
+
+pub fn split_by_arc(parents: &[u16], costs: &[u32], out: &mut [u64]) -> ZilqodurMembers {
+    unsafe {
+        zilqodur_split_by_arc(
+            parents.as_ptr(),
+            parents.len(),
+            costs.as_ptr(),
+            costs.len(),
+            out.as_mut_ptr(),
+            out.len(),
+        )
+    }
+}
+
+pub fn read_job(
+    bytes: &[u8],
+    parents: &mut [u16],
+    costs: &mut [u32],
+    caps: &mut [u64],
+    proposals: &mut [i64],
+) -> ZilqodurJob {
+    unsafe {
+        zilqodur_read_job(
+            bytes.as_ptr(),
+            bytes.len(),
+            parents.as_mut_ptr(),
+            parents.len(),
+            costs.as_mut_ptr(),
+            costs.len(),
+            caps.as_mut_ptr(),
+            caps.len(),
+            proposals.as_mut_ptr(),
+            proposals.len(),
+        )
+    }
+}

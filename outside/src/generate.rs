@@ -1,0 +1,282 @@
+//! Pseudo-random trees, groups and lists: valid, at the limits and past them.
+
+use crate::reference::{Tree, AMOUNT, ARCS, COST};
+
+/// The splitmix64 generator.
+pub struct Rng(u64);
+
+impl Rng {
+    pub fn new(seed: u64) -> Rng {
+        Rng(seed)
+    }
+
+    pub fn next(&mut self) -> u64 {
+        self.0 = self.0.wrapping_add(0x9E37_79B9_7F4A_7C15);
+        let mut z = self.0;
+        z = (z ^ (z >> 30)).wrapping_mul(0xBF58_476D_1CE4_E5B9);
+        z = (z ^ (z >> 27)).wrapping_mul(0x94D0_49BB_1331_11EB);
+        z ^ (z >> 31)
+    }
+
+    pub fn below(&mut self, bound: usize) -> usize {
+        (self.next() % bound as u64) as usize
+    }
+
+    pub fn up_to(&mut self, most: u64) -> u64 {
+        self.next() % (most + 1)
+    }
+
+    pub fn one_in(&mut self, bound: usize) -> bool {
+        self.below(bound) == 0
+    }
+
+    pub fn pick<T: Copy>(&mut self, list: &[T]) -> T {
+        list[self.below(list.len())]
+    }
+}
+
+/// The parents of a tree of one of many shapes.
+pub fn parents(rng: &mut Rng, arcs: usize) -> Vec<u16> {
+    let shape = rng.below(12);
+    let most = rng.pick(&[arcs.min(4), arcs]);
+    let width = 1 + rng.below(most);
+    let parent = |k: usize| match shape {
+        0 => 0,
+        1 => k - 1,
+        // A caterpillar: a spine of odd vertices, each with one member.
+        2 => k.saturating_sub(if k % 2 == 1 { 2 } else { 1 }),
+        // A broom: a chain that ends in many members.
+        3 => (k - 1).min(width),
+        4 => (k - 1) / 2,
+        5 => (k - 1) / width,
+        // Chains side by side.
+        6 => k.saturating_sub(width),
+        7 => rng.below(k),
+        8 => k - 1 - rng.below(k.min(3)),
+        9 => rng.below(k.min(width)),
+        // Long unbranched runs.
+        10 if rng.one_in(5) => rng.below(k),
+        10 => k - 1,
+        _ => k - 1 - rng.below(k.min(width)),
+    };
+    (1..=arcs).map(parent).map(|p| p as u16).collect()
+}
+
+pub fn costs(rng: &mut Rng, arcs: usize) -> Vec<u32> {
+    let kind = rng.below(9);
+    let mut cost = || match kind {
+        0 => rng.up_to(1) as u32,
+        1 => rng.up_to(3) as u32,
+        2 | 3 => rng.up_to(20) as u32,
+        4 => rng.up_to(u64::from(COST)) as u32,
+        5 => COST,
+        6 if rng.one_in(4) => rng.up_to(100) as u32,
+        6 => 0,
+        7 => COST - rng.up_to(2) as u32,
+        _ => (rng.up_to(u64::from(COST)) >> rng.below(30)) as u32,
+    };
+    (0..arcs).map(|_| cost()).collect()
+}
+
+/// Damages a tree's lists so that most of them are refused.
+pub fn damage_tree(rng: &mut Rng, parents: &mut Vec<u16>, costs: &mut Vec<u32>) {
+    for _ in 0..1 + rng.below(3) {
+        let both = parents.len().min(costs.len());
+        match rng.below(10) {
+            0 => parents.clear(),
+            1 => costs.clear(),
+            2 => {
+                let lengths = [
+                    ARCS + 1,
+                    ARCS + 2,
+                    1100,
+                    2048,
+                    65_536,
+                    65_537,
+                    65_536 + both,
+                ];
+                parents.resize(rng.pick(&lengths), 0);
+                if rng.one_in(2) {
+                    costs.resize(parents.len(), 1);
+                }
+            }
+            3 => costs.push(rng.next() as u32),
+            4 => drop(costs.pop()),
+            5 => drop(parents.pop()),
+            6 | 7 if both > 0 => {
+                let k = rng.below(both);
+                parents[k] = rng.pick(&[k + 1, k + 1, k + 2, 65_535, k + 1 + both]) as u16;
+                if rng.one_in(3) {
+                    costs[k] = COST + 1;
+                }
+            }
+            _ if both > 0 => {
+                let above = COST + 1 + rng.up_to(1_000_000_000) as u32;
+                costs[rng.below(both)] = rng.pick(&[COST + 1, u32::MAX, above]);
+            }
+            _ => parents.push(0),
+        }
+    }
+}
+
+/// A length for an output list, most often the right one.
+pub fn length(rng: &mut Rng, right: usize) -> usize {
+    let any = rng.below(1_100);
+    let wrong = [0, right.saturating_sub(1), right + 1, any, right + 65_536];
+    if rng.one_in(5) {
+        rng.pick(&wrong)
+    } else {
+        right
+    }
+}
+
+/// A group of members, now and then with bits at or beyond their number.
+pub fn group(rng: &mut Rng, members: usize) -> [u64; 16] {
+    let mut words = [0u64; 16];
+    let mut set = |bit: usize| words[bit / 64] |= 1 << (bit % 64);
+    match rng.below(6) {
+        0 => set(rng.below(members)),
+        1 => (0..members).for_each(&mut set),
+        kind => {
+            let odds = [2, 2, 8, 64][kind - 2];
+            (0..members).filter(|_| rng.one_in(odds)).for_each(&mut set);
+        }
+    }
+    match rng.below(12) {
+        0 => set(members),
+        1 => set(1023),
+        2 => (0..1 + rng.below(3)).for_each(|_| set(rng.below(1024))),
+        3 => (members..1024).for_each(set),
+        _ => (),
+    }
+    words
+}
+
+/// Shares in the core: each arc's cost is paid by one or two of its users.
+fn core_shares(rng: &mut Rng, tree: &Tree) -> Vec<u64> {
+    let mut shares = vec![0; tree.members.len()];
+    for arc in 1..=tree.arcs() {
+        let part = rng.up_to(tree.cost[arc]);
+        shares[rng.pick(&tree.users[arc])] += part;
+        shares[rng.pick(&tree.users[arc])] += tree.cost[arc] - part;
+    }
+    shares
+}
+
+/// Some list in the core.
+fn fair_shares(rng: &mut Rng, tree: &Tree) -> Vec<u64> {
+    match rng.below(3) {
+        0 => tree.by_arc(),
+        1 => tree.level(&vec![AMOUNT; tree.members.len()]),
+        _ => core_shares(rng, tree),
+    }
+}
+
+/// Caps in range: ample, just enough, just short, or anything.
+pub fn caps(rng: &mut Rng, tree: &Tree) -> Vec<u64> {
+    let members = tree.members.len();
+    let most = match rng.below(9) {
+        0 => return vec![AMOUNT; members],
+        kind @ 1..=5 => {
+            let mut caps = fair_shares(rng, tree);
+            let extra = [0, 0, 3, tree.whole(), tree.whole() / members as u64][kind - 1];
+            caps.iter_mut().for_each(|cap| *cap += rng.up_to(extra));
+            if rng.one_in(3) {
+                let j = rng.below(members);
+                caps[j] -= rng.up_to(caps[j].min(2));
+            }
+            caps.iter_mut().for_each(|cap| *cap = (*cap).min(AMOUNT));
+            return caps;
+        }
+        6 => AMOUNT,
+        7 => 3,
+        _ => 3 * tree.whole() / members as u64,
+    };
+    let cap = |_| match rng.below(8) {
+        0 => 0,
+        1 => most.min(AMOUNT),
+        _ => rng.up_to(most.min(AMOUNT)),
+    };
+    (0..members).map(cap).collect()
+}
+
+/// Makes the list add up to the whole cost, within the range.
+fn settle(rng: &mut Rng, list: &mut [i64], whole: u64) {
+    let most = AMOUNT as i64;
+    let mut left = whole as i64 - list.iter().sum::<i64>();
+    list.rotate_left(rng.below(list.len()));
+    for share in list {
+        let moved = (*share + left).clamp(-most, most) - *share;
+        *share += moved;
+        left -= moved;
+    }
+}
+
+/// A proposal in range: in the core, near it, far from it, or of a wrong total.
+pub fn proposal(rng: &mut Rng, tree: &Tree) -> Vec<i64> {
+    let members = tree.members.len();
+    let most = AMOUNT as i64;
+    let kind = rng.below(10);
+    let mut list: Vec<i64> = match kind {
+        0..=6 => fair_shares(rng, tree).iter().map(|&s| s as i64).collect(),
+        7 => vec![0; members],
+        8 => (0..members).map(|_| rng.pick(&[-most, most])).collect(),
+        _ => (0..members)
+            .map(|_| rng.up_to(2 * AMOUNT) as i64 - most)
+            .collect(),
+    };
+    // Units moved from one member to another.
+    let unit = [0, 1, 1, 3, 10, 1_000_000, tree.whole() + 1][kind.min(6)];
+    for _ in 0..rng.below(1 + members.min(6)) {
+        let (from, to) = (rng.below(members), rng.below(members));
+        let moved = rng.up_to(unit) as i64;
+        if kind < 7 && list[from] - moved >= -most && list[to] + moved <= most {
+            list[from] -= moved;
+            list[to] += moved;
+        }
+    }
+    if kind >= 7 && !rng.one_in(3) {
+        settle(rng, &mut list, tree.whole());
+    }
+    if rng.one_in(6) {
+        let j = rng.below(members);
+        list[j] = (list[j] + rng.pick(&[-1, 1, 1_000])).clamp(-most, most);
+    }
+    list
+}
+
+/// Damages a list with an entry a member: its length, or entries put to one
+/// of the given values outside the range.
+fn damage<T: Copy>(rng: &mut Rng, list: &mut Vec<T>, inside: T, outside: &[T]) {
+    if rng.one_in(3) {
+        let any = rng.below(1_100);
+        let less = list.len().saturating_sub(1);
+        let lengths = [0, less, list.len() + 1, any, list.len() + 65_536];
+        list.resize(rng.pick(&lengths), inside);
+    }
+    for _ in 0..rng.below(4) {
+        if !list.is_empty() {
+            let j = rng.below(list.len());
+            list[j] = rng.pick(outside);
+        }
+    }
+}
+
+pub fn damage_caps(rng: &mut Rng, caps: &mut Vec<u64>) {
+    let above = AMOUNT + 1 + rng.up_to(u64::MAX - AMOUNT - 1);
+    let outside = [AMOUNT + 1, u64::MAX, 1 << 63, i64::MAX as u64, above];
+    damage(rng, caps, AMOUNT, &outside);
+}
+
+pub fn damage_proposal(rng: &mut Rng, proposal: &mut Vec<i64>) {
+    let most = AMOUNT as i64;
+    let outside = [
+        most + 1,
+        -most - 1,
+        i64::MIN,
+        i64::MAX,
+        i64::MIN + 1,
+        rng.next() as i64,
+    ];
+    damage(rng, proposal, -most, &outside);
+}

@@ -1,0 +1,94 @@
+//! Document 01's job bytes: the reader, and the same rows written out.
+
+use crate::reference::{check_caps, check_proposal, refuse, Answer, Tree, ARCS};
+
+pub const LONGEST: usize = 24_823;
+
+/// What a job holds: the note, the arc rows and the member rows.
+#[derive(Clone, Debug, Default, PartialEq)]
+pub struct Job {
+    pub note: Vec<u8>,
+    pub parents: Vec<u16>,
+    pub fillers: Vec<u16>,
+    pub costs: Vec<u32>,
+    pub caps: Vec<u64>,
+    pub proposals: Vec<i64>,
+}
+
+impl Job {
+    pub fn write(&self) -> Vec<u8> {
+        let mut bytes = self.note.clone();
+        for k in 0..self.parents.len() {
+            bytes.extend(self.parents[k].to_le_bytes());
+            bytes.extend(self.fillers[k].to_le_bytes());
+            bytes.extend(self.costs[k].to_le_bytes());
+        }
+        let members = bytes.len();
+        for j in 0..self.caps.len() {
+            bytes.extend(self.caps[j].to_le_bytes());
+            bytes.extend(self.proposals[j].to_le_bytes());
+        }
+        bytes.extend((self.note.len() as u32).to_le_bytes());
+        bytes.extend((members as u32).to_le_bytes());
+        bytes.extend((self.parents.len() as u16).to_le_bytes());
+        bytes.extend((self.caps.len() as u16).to_le_bytes());
+        bytes.extend([1, 0, 0x54, 0x4A]);
+        bytes
+    }
+}
+
+fn number(bytes: &[u8], offset: usize, width: usize) -> u64 {
+    let digits = bytes[offset..offset + width].iter().rev();
+    digits.fold(0, |n, &byte| n << 8 | u64::from(byte))
+}
+
+/// Reads a job; `lent` has the lengths of the four lent lists.
+pub fn read(bytes: &[u8], lent: [usize; 4]) -> Answer<Job> {
+    if lent.iter().any(|&length| length < ARCS) {
+        return refuse(10, 0);
+    }
+    if bytes.len() < 16 || bytes.len() > LONGEST {
+        return refuse(11, 0);
+    }
+    let end = bytes.len() - 16;
+    if number(bytes, end + 12, 2) != 1 || bytes[end + 14..] != [0x54, 0x4A] {
+        return refuse(12, 0);
+    }
+    let arc_rows = number(bytes, end, 4) as usize;
+    let member_rows = number(bytes, end + 4, 4) as usize;
+    let arcs = number(bytes, end + 8, 2) as usize;
+    let members = number(bytes, end + 10, 2) as usize;
+    if arc_rows > 255 || arc_rows + 8 * arcs != member_rows || member_rows + 16 * members != end {
+        return refuse(13, 0);
+    }
+    let arc_row = |k: usize| arc_rows + 8 * k;
+    let member_row = |j: usize| member_rows + 16 * j;
+    let job = Job {
+        note: bytes[..arc_rows].to_vec(),
+        parents: (0..arcs)
+            .map(|k| number(bytes, arc_row(k), 2) as u16)
+            .collect(),
+        fillers: (0..arcs)
+            .map(|k| number(bytes, arc_row(k) + 2, 2) as u16)
+            .collect(),
+        costs: (0..arcs)
+            .map(|k| number(bytes, arc_row(k) + 4, 4) as u32)
+            .collect(),
+        caps: (0..members)
+            .map(|j| number(bytes, member_row(j), 8))
+            .collect(),
+        proposals: (0..members)
+            .map(|j| number(bytes, member_row(j) + 8, 8) as i64)
+            .collect(),
+    };
+    if let Some(k) = job.fillers.iter().position(|&filler| filler != 0) {
+        return refuse(14, k + 1);
+    }
+    let tree = Tree::new(&job.parents, &job.costs)?;
+    if tree.members.len() != members {
+        return refuse(15, 0);
+    }
+    check_caps(members, &job.caps)?;
+    check_proposal(members, &job.proposals)?;
+    Ok(job)
+}
