@@ -9,7 +9,7 @@ use lib.ListN.{length, getD}
 use lib.Dec.{eqb, ltb, leb}
 use Rattle.game.specs.Tree.{Tree, ofArc}
 use Rattle.game.proofs.Bools.{neither-second}
-use Rattle.answers.specs.Answer.{Check, accepted, refused, fault, _then_}
+use Rattle.answers.specs.Answer.{Check, accepted, refused, fault, _then_, value, answer}
 use Rattle.answers.specs.Checks.{mostArcs, mostCost, arcCheck, arcsCheck, treeCheck, lengthCheck}
 
 not-refused : {number place : ℕ} → refused number place ≡ accepted → ⊥
@@ -102,3 +102,8 @@ tree-accepted t e =
 -- an output list that is accepted has the length of what is written
 pub length-accepted : (wanted found : ℕ) → lengthCheck wanted found ≡ accepted → found ≡ wanted
 length-accepted wanted found e = eqb-true found wanted (not-false (eqb found wanted) (no-fault (not (eqb found wanted)) 8 0 e))
+
+-- an answer that is a value: the check finds nothing
+pub answered : {A : Type 0} (check : Check) (x v : A) → answer check x ≡ value v → (check ≡ accepted) × (v ≡ x)
+answered accepted x v e = (refl, cc)
+answered (refused number place) x v e = let z : _≡_ {A = ℕ} 0 1 = cc in absurd (omega arith)

@@ -1,11 +1,10 @@
 -- The laws of the reader.
 use Prim.Native.Nat.{ℕ}
-use mathlib.Core.Path.{_≡_, refl, sym}
+use mathlib.Core.Path.{_≡_, sym}
 use mathlib.Core.List.{List, _++_}
-use native.Mathlib.Omega.{arith}
 use lib.ListN.{length, drop}
-use Rattle.answers.specs.Answer.{Check, accepted, refused, value, answer}
-use Rattle.answers.proofs.Accepted.{second-accepted}
+use Rattle.answers.specs.Answer.{accepted}
+use Rattle.answers.proofs.Accepted.{second-accepted, answered}
 use Rattle.job_bytes.specs.Format.{jobArcs, jobMembers, arcOffset, memberOffset, parentAt, costAt, capAt, proposalAt, jobParents, jobCosts, jobCaps, jobProposals}
 use Rattle.job_bytes.proofs.Entries.{front}
 use Rattle.job_form.proofs.SameJob.{same-job}
@@ -14,13 +13,8 @@ use Rattle.job.specs.Reader.{Lent, lent, roomCheck, readCheck, jobValue,
 use Rattle.job.specs.Laws.{Usable, ReadUsable, Determined}
 use Rattle.job.proofs.Accepted.{job-accepted}
 
--- an answer that is a value: the check finds nothing
-answered : {A : Type 0} (check : Check) (x v : A) → answer check x ≡ value v → (check ≡ accepted) × (v ≡ x)
-answered accepted x v e = (refl, cc)
-answered (refused number place) x v e = let z : _≡_ {A = ℕ} 0 1 = cc in absurd (omega arith)
-
 -- the lists after a job was read
-filled : (bytes : List ℕ) (l : Lent) → readCheck bytes l ≡ accepted
+pub filled : (bytes : List ℕ) (l : Lent) → readCheck bytes l ≡ accepted
     → jobLists bytes l
     ≡ lent (jobParents bytes ++ drop (jobArcs bytes) (l .parents)) (jobCosts bytes ++ drop (jobArcs bytes) (l .costs))
     (jobCaps bytes ++ drop (jobMembers bytes) (l .caps)) (jobProposals bytes ++ drop (jobMembers bytes) (l .proposals))

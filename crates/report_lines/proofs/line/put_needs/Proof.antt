@@ -1,0 +1,22 @@
+use borrow.Author.Needs.{needs}
+use Rattle.report_lines.proofs.line.put_needs.Statement.{statement}
+use Rattle.report_lines.proofs.line.put_needs.Tie as tie
+
+returns : tie.Need-returns
+returns c = rw (c .before .before .before .before .before .found .given .1) (c .before .before .put-cost .ensures)
+
+returns-2 : tie.Need-returns-2
+returns-2 c = rw (c .before .before .before .before .before .found2 .given .1) (c .before .before .put-refused .ensures)
+
+pub put-needs-spec : {M : Type 1} → statement M
+put-needs-spec =
+    tie.close
+    (tie.spec
+    (λ c. search needs)
+    (λ c κs. search needs)
+    (λ c. search needs)
+    (λ c κs. search needs)
+    (λ c. search needs)
+    returns
+    (λ c. search needs)
+    returns-2)

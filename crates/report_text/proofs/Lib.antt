@@ -1,0 +1,4 @@
+pub mod Table
+mod Found
+mod Joined
+mod Reading

@@ -1,0 +1,27 @@
+-- The table, by evaluation.
+use mathlib.Core.Path.{refl}
+use Rattle.game.specs.Network.{climb, used, groupCost, sumBelow, wholeCost, membersTo}
+use Rattle.game.specs.Tree.{hasChild}
+use Rattle.game.specs.Group.{bit, size, wordsOf}
+use Rattle.game.specs.Proposal.{pays}
+use Rattle.game.specs.Search.{groups, best, named}
+use Rattle.game.specs.Level.{firstLeast, units, arcsDown}
+use Rattle.game.specs.ByArc.{giveArc, byArcDown}
+use Rattle.answers.specs.Checks.{arcsCheck, treeCheck, rangeCheck}
+use Rattle.answers.specs.Audit.{verdict, auditAnswer, auditWords}
+use Rattle.answers.specs.Level.{shortArc, levelAnswer, levelList}
+use Rattle.answers.specs.ByArc.{byArcList}
+use Rattle.job_bytes.specs.Numbers.{littleEndian, signed64, entries}
+use Rattle.job_bytes.specs.Format.{arcOffset, memberOffset, jobArcs, jobMembers, version}
+use Rattle.job_form.specs.Form.{formCheck, fillersFrom}
+use Rattle.job.specs.JobCheck.{sharesCheck, valuesCheck, jobCheck}
+use Rattle.text.specs.Decimal.{decimalIn, decimal, signedDecimal}
+use Rattle.report_lines.specs.Lines.{groupText, memberLines}
+use Rattle.report_text.specs.Report.{treeText, splitText, reportText}
+use Rattle.report_text.specs.Table.{Table}
+
+pub table : Table
+unfolding climb used groupCost sumBelow wholeCost membersTo hasChild bit size wordsOf pays groups best named firstLeast units arcsDown giveArc byArcDown arcsCheck treeCheck rangeCheck verdict auditAnswer auditWords shortArc levelAnswer levelList byArcList littleEndian signed64 entries arcOffset memberOffset jobArcs jobMembers version formCheck fillersFrom sharesCheck valuesCheck jobCheck decimalIn decimal signedDecimal groupText memberLines treeText splitText reportText
+table = record { T-report = refl; noted-report = refl; passed-report = refl; short-report = refl; W-report = refl; refused-report = refl }
+
+-- x

@@ -1,0 +1,45 @@
+-- The report on a job, as bytes.
+use Prim.Native.Nat.{ℕ}
+use mathlib.Core.List.{List, _++_}
+use lib.ListN.{replicate}
+use lib.IntN.{ℤ}
+use Rattle.game.specs.Network.{wholeCost, memberCount, members}
+use Rattle.game.specs.Tree.{Tree, network}
+use Rattle.answers.specs.Answer.{Check, accepted, refused}
+use Rattle.answers.specs.Audit.{auditAnswer, auditWords}
+use Rattle.answers.specs.Level.{levelAnswer, levelList}
+use Rattle.answers.specs.ByArc.{byArcList}
+use Rattle.job_bytes.specs.Format.{jobCaps, jobProposals}
+use Rattle.job.specs.JobCheck.{jobCheck, jobTree}
+use Rattle.report_lines.specs.Lines.{refusedLine, costLine, auditLine, levelLine, memberLines}
+
+-- a list to be written, with one entry a member
+abbrev pub blank : Tree → List ℕ
+blank t = replicate (memberCount (network t)) 0
+
+-- the lines on the tree and the proposal
+unfoldable pub treeText : Tree → List ℤ → List ℕ
+treeText t proposed =
+    costLine (wholeCost (network t)) (memberCount (network t)) ++ auditLine (memberCount (network t)) (auditAnswer t proposed) (auditWords t proposed)
+
+-- the lines on the two splits
+unfoldable pub splitText : Tree → List ℕ → List ℤ → List ℕ
+splitText t caps proposed =
+    levelLine (levelAnswer t caps (blank t))
+    ++ memberLines
+    (levelAnswer t caps (blank t))
+    (members (network t))
+    proposed
+    (byArcList t (blank t))
+    (levelList t caps (blank t))
+    (memberCount (network t))
+
+abbrev pub jobText : Tree → List ℕ → List ℤ → List ℕ
+jobText t caps proposed = treeText t proposed ++ splitText t caps proposed
+
+abbrev pub reportOf : Check → List ℕ → List ℕ
+reportOf accepted bytes = jobText (jobTree bytes) (jobCaps bytes) (jobProposals bytes)
+reportOf (refused number place) bytes = refusedLine number place
+
+unfoldable pub reportText : List ℕ → List ℕ
+reportText bytes = reportOf (jobCheck bytes) bytes

@@ -1,0 +1,102 @@
+// The lines on an accepted job.
+use report_lines::put_audit;
+use report_lines::put_level;
+use report_lines::put_members;
+use report_lines::put_needs;
+ghost use mathlib.Core.Path.{_≡_};
+ghost use Prim.Native.Nat.{_+_, _≤_};
+ghost use lib.ListN.{length};
+ghost use Rattle.game.specs.Network.{wholeCost, memberCount};
+ghost use Rattle.game.specs.Tree.{treeOf, network};
+ghost use Rattle.answers.specs.Answer.{accepted};
+ghost use Rattle.answers.specs.Checks.{treeCheck};
+ghost use Rattle.text.specs.Put.{Put};
+ghost use Rattle.report_lines.specs.Lines.{costLine};
+ghost use Rattle.report_text.specs.Report.{blank, treeText, splitText, jobText};
+
+// `needs` is room for one entry an arc.
+fn put_cost(parents: &[u16], costs: &[u32], needs: &mut [u64], out: &mut [u8], at: usize) -> usize
+    requires { ⌜ treeCheck (treeOf (now parents) (now costs)) ≡ accepted ⌝ }
+    requires { ⌜ length (now needs) ≡ length (now parents) ⌝ }
+    requires { ⌜ at + 100 ≤ length (now out) ⌝ }
+    ensures { λ r. ⌜ Put (now (out .entry)) at (costLine (wholeCost (network (treeOf (now (parents .entry)) (now (costs .entry))))) (memberCount (network (treeOf (now (parents .entry)) (now (costs .entry)))))) (now (out .exit)) r ⌝ }
+    ensures { λ r. ⌜ r ≤ at + 100 ⌝ }
+{
+    put_needs(out, at, engine::list_needs(parents, costs, needs))
+}
+
+// The lines on the tree and the proposal.
+fn put_tree(parents: &[u16], costs: &[u32], proposed: &[i64], out: &mut [u8], at: usize) -> usize
+    requires { ⌜ treeCheck (treeOf (now parents) (now costs)) ≡ accepted ⌝ }
+    requires { ⌜ length (now proposed) ≡ memberCount (network (treeOf (now parents) (now costs))) ⌝ }
+    requires { ⌜ at + 22100 ≤ length (now out) ⌝ }
+    ensures { λ r. ⌜ Put (now (out .entry)) at (treeText (treeOf (now (parents .entry)) (now (costs .entry))) (now (proposed .entry))) (now (out .exit)) r ⌝ }
+    ensures { λ r. ⌜ r ≤ at + 22100 ⌝ }
+{
+    let mut needs = [0u64; 1023];
+    let arcs = parents.len();
+    let next = put_cost(parents, costs, &mut needs[0..arcs], out, at);
+    put_audit(
+        out,
+        next,
+        proposed.len(),
+        engine::audit(parents, costs, proposed),
+    )
+}
+
+// The lines on the two splits. The three lists are room for one entry a member, all 0.
+fn put_splits(
+    parents: &[u16],
+    costs: &[u32],
+    caps: &[u64],
+    proposed: &[i64],
+    vertices: &mut [u16],
+    by_arc: &mut [u64],
+    shares: &mut [u64],
+    out: &mut [u8],
+    at: usize,
+) -> usize
+    requires { ⌜ treeCheck (treeOf (now parents) (now costs)) ≡ accepted ⌝ }
+    requires { ⌜ length (now proposed) ≡ memberCount (network (treeOf (now parents) (now costs))) ⌝ }
+    requires { ⌜ now vertices ≡ blank (treeOf (now parents) (now costs)) ⌝ }
+    requires { ⌜ now «by_arc» ≡ blank (treeOf (now parents) (now costs)) ⌝ }
+    requires { ⌜ now shares ≡ blank (treeOf (now parents) (now costs)) ⌝ }
+    requires { ⌜ at + 160000 ≤ length (now out) ⌝ }
+    ensures { λ r. ⌜ Put (now (out .entry)) at (splitText (treeOf (now (parents .entry)) (now (costs .entry))) (now (caps .entry)) (now (proposed .entry))) (now (out .exit)) r ⌝ }
+{
+    engine::list_members(parents, costs, vertices);
+    engine::split_by_arc(parents, costs, by_arc);
+    let level = engine::split_level(parents, costs, caps, shares);
+    let next = put_level(out, at, level);
+    put_members(out, next, level, vertices, proposed, by_arc, shares)
+}
+
+pub fn put_job(
+    parents: &[u16],
+    costs: &[u32],
+    caps: &[u64],
+    proposed: &[i64],
+    out: &mut [u8],
+) -> usize
+    requires { ⌜ treeCheck (treeOf (now parents) (now costs)) ≡ accepted ⌝ }
+    requires { ⌜ length (now proposed) ≡ memberCount (network (treeOf (now parents) (now costs))) ⌝ }
+    requires { ⌜ 190000 ≤ length (now out) ⌝ }
+    ensures { λ r. ⌜ Put (now (out .entry)) 0 (jobText (treeOf (now (parents .entry)) (now (costs .entry))) (now (caps .entry)) (now (proposed .entry))) (now (out .exit)) r ⌝ }
+{
+    let members = proposed.len();
+    let mut vertices = [0u16; 1023];
+    let mut by_arc = [0u64; 1023];
+    let mut shares = [0u64; 1023];
+    let next = put_tree(parents, costs, proposed, out, 0);
+    put_splits(
+        parents,
+        costs,
+        caps,
+        proposed,
+        &mut vertices[0..members],
+        &mut by_arc[0..members],
+        &mut shares[0..members],
+        out,
+        next,
+    )
+}

@@ -1,0 +1,14 @@
+use native.Mathlib.Omega.{arith}
+use mir.Facts.{toZ-ofZ}
+use borrow.Author.Needs.{needs}
+use Rattle.text.proofs.Pieces.{put-then}
+use Rattle.text.proofs.number.put_labelled_signed.Statement.{statement}
+use Rattle.text.proofs.number.put_labelled_signed.Tie as tie
+
+returns : tie.Need-returns
+returns c =
+    let number = rw (toZ-ofZ (c .before .before .before .before .before .before .before .before .before .before .fits .n)) at (c .before .before .put-signed .ensures .0) in
+    (put-then (c .before .before .before .before .before .before .put .ensures) number, omega arith)
+
+pub put-labelled-signed-spec : {M : Type 1} → statement M
+put-labelled-signed-spec = tie.close (tie.spec (λ c κs. search needs) (λ c κs. search needs) (λ c. search needs) returns)
