@@ -1,6 +1,6 @@
 #!/usr/bin/env bash
-# Builds the examples and the comparison with an independent implementation against the archive, with the machine's compilers, and runs
-# them.
+# Runs the report program on jobs; builds the examples and the comparison with an independent implementation against the archive, with
+# the machine's compilers, and runs them.
 # Exit status 1 where one failed. A compiler that is not found is no failure.
 set -u
 cd "$(dirname "$0")/.." || exit 1
@@ -41,9 +41,16 @@ comparison() {
     bash outside/build.sh target/staticlib/libcapi.a "$out/comparison" && "$out/comparison"
 }
 
+if ! command -v python3 >/dev/null; then
+    echo "report not run: no python3"
+else
+    python3 tests/report.py target/bin/report
+    report "report program" $?
+fi
+
 if [ "$(uname -m)" != x86_64 ]; then
     echo "outside tests not run: the archive is for x86-64"
-    exit 0
+    exit $failed
 fi
 
 if ! bash build.sh >"$out/build.txt" 2>&1; then

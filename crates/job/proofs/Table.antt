@@ -7,9 +7,9 @@ use Rattle.job_bytes.specs.Format.{arcOffset, memberOffset, jobArcs, jobMembers
 use Rattle.job_form.specs.Form.{formCheck, fillersFrom}
 use Rattle.job.specs.JobCheck.{sharesCheck, valuesCheck, jobCheck}
 use Rattle.job.specs.Reader.{readCheck, jobAnswer, jobLists}
-use Rattle.job.specs.Table.{Table}
+use Rattle.job.specs.Table.{JobTable}
 
-pub table : Table
+pub table : JobTable
 unfolding hasChild arcsCheck treeCheck rangeCheck littleEndian signed64 entries arcOffset memberOffset jobArcs jobMembers version formCheck fillersFrom sharesCheck valuesCheck jobCheck readCheck jobAnswer jobLists
 table =
     record {

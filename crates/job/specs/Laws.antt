@@ -24,7 +24,7 @@ pub record Usable (v : JobValue) (l : Lent) : Type 0 where
   pub caps : capsCheck (v .members) (take (v .members) (l .caps)) ≡ accepted
   pub proposals : proposalCheck (v .members) (take (v .members) (l .proposals)) ≡ accepted
 
--- after a job was read no entry refuses the lists by 1 to 4, 6 or 7
+-- after a job was read, the checks of the tree, the caps and the proposal accept the front of the lists
 abbrev pub ReadUsable : Type 0
 ReadUsable = (bytes : List ℕ) (l : Lent) (v : JobValue) → jobAnswer bytes l ≡ value v → Usable v (jobLists bytes l)
 

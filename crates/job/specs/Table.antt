@@ -46,7 +46,7 @@ outside-job = T-arcs ++ memberRow 100 8 0 ++ memberRow 100 4 0 ++ memberRow 100 
 abbrev pub nines : ℕ → Lent
 nines n = lent (replicate n 9) (replicate n 9) (replicate n 9) (replicate n (pos 9))
 
-pub record Table : Type 0 where
+pub record JobTable : Type 0 where
   pub T-size : length T-job ≡ 96
   pub T-read : jobAnswer T-job (nines 1023) ≡ value (record { arcs = 4; members = 3; note = 0 })
   pub T-lists :

@@ -18,10 +18,8 @@ use Rattle.job.specs.JobCheck.{sharesCheck, valuesCheck, jobCheck}
 use Rattle.text.specs.Decimal.{decimalIn, decimal, signedDecimal}
 use Rattle.report_lines.specs.Lines.{groupText, memberLines}
 use Rattle.report_text.specs.Report.{treeText, splitText, reportText}
-use Rattle.report_text.specs.Table.{Table}
+use Rattle.report_text.specs.Table.{ReportTable}
 
-pub table : Table
+pub table : ReportTable
 unfolding climb used groupCost sumBelow wholeCost membersTo hasChild bit size wordsOf pays groups best named firstLeast units arcsDown giveArc byArcDown arcsCheck treeCheck rangeCheck verdict auditAnswer auditWords shortArc levelAnswer levelList byArcList littleEndian signed64 entries arcOffset memberOffset jobArcs jobMembers version formCheck fillersFrom sharesCheck valuesCheck jobCheck decimalIn decimal signedDecimal groupText memberLines treeText splitText reportText
-table = record { T-report = refl; noted-report = refl; passed-report = refl; short-report = refl; W-report = refl; refused-report = refl }
-
--- x
+table = record { T-report = refl; refused-report = refl }

@@ -4,7 +4,7 @@ use lib.IntN.{pos, negsuc}
 use Rattle.text.specs.Ascii.{ascii}
 use Rattle.text.specs.Decimal.{decimal, signedDecimal}
 
-pub record Table : Type 0 where
+pub record DecimalTable : Type 0 where
   pub zero-text : decimal 0 ≡ ascii "0"
   pub tens-text : decimal 1020 ≡ ascii "1020"
   pub most-text : decimal 18446744073709551615 ≡ ascii "18446744073709551615"

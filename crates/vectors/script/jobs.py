@@ -38,7 +38,7 @@ def plain(parents, costs, **rest):
 
 
 def no_rows(arcs, **rest):
-    """Arcs that all hang at the source, and no member rows."""
+    """Arcs whose parent is the source, and no member rows."""
     return job(star(arcs), star(arcs), [], [], **rest)
 
 

@@ -20,7 +20,7 @@ def comb(arcs):
 
 
 def broom(arcs):
-    """A chain of half the arcs; all other vertices hang under its end."""
+    """A chain of half the arcs; all other vertices are children of its last."""
     handle = (arcs + 1) // 2
     return chain(handle) + [handle] * (arcs - handle)
 
