@@ -1,7 +1,7 @@
 -- The audit's answers: pass, wrong total and objection, over all groups.
 use Prim.Native.Nat.{ℕ, _≤_, _<_}
 use mathlib.Core.Path.{_≡_, refl, sym, ap, _∙_, subst}
-use mathlib.Core.Bool.{Bool, true, false}
+use mathlib.Core.Bool.{Bool, true, false, cond}
 use mathlib.Core.Logic.{⊎-elim}
 use mathlib.Core.List.{List}
 use native.Mathlib.Decide.{decLt}
@@ -55,7 +55,7 @@ passed (pos a) s e =
 passed (negsuc a) s e = record { le = tt }
 
 passes-by : (o : ℤ) (s : ℕ) → o ≤ℤ pos 0 → groupVerdict o s ≡ pass
-passes-by (pos a) s h = rw (le-ltb 0 a (leb→le a 0 (h .le)))
+passes-by (pos a) s h = ap (λ (b : Bool). cond b (objection a s) pass) (le-ltb 0 a (leb→le a 0 (h .le)))
 passes-by (negsuc a) s h = refl
 
 objects-by : (o : ℤ) (s : ℕ) → (o ≤ℤ pos 0 → ⊥) → (a : ℕ) × (groupVerdict o s ≡ objection a s)

@@ -11,17 +11,18 @@ use lib.Signed.{_≤ℤ_}
 use Rattle.game.specs.Sum.{pick}
 use Rattle.game.specs.Network.{atOrBelow, need, number, memberCount, sumBelow, wholeCost}
 use Rattle.game.specs.Tree.{Tree, network}
-use Rattle.game.specs.Proposal.{plus, minus, share, pays}
-use Rattle.game.specs.Core.{users, CoreByNeed, IsArc, AddsUp}
+use Rattle.game.specs.Proposal.{plus, minus, share}
+use Rattle.game.specs.Core.{CoreByNeed}
 use Rattle.game.specs.Level.{level}
-use Rattle.game.proofs.Bools.{both, pick-yes, pick-no, pick-zero, pick-both-le}
-use Rattle.game.proofs.Sums.{In, sum-cong, sum-mono, sum-zero}
+use Rattle.game.proofs.Bools.{both, pick-yes, pick-no, pick-both-le}
+use Rattle.game.proofs.Sums.{In, sum-cong, sum-mono}
 use Rattle.game.proofs.Below.{Rooted}
-use Rattle.game.proofs.Integers.{less-parts, less-le, le-less, less-same, sum-pos-ℤ}
-use Rattle.game.proofs.Overpayment.{over-at, under-at, less-pays, members-sum, number-lt}
+use Rattle.game.proofs.Integers.{less-parts, less-le, le-less, sum-pos-ℤ}
+use Rattle.game.proofs.Overpayment.{over-at, members-sum, number-lt}
 use Rattle.game.proofs.Numbering.{vertex-of}
-use Rattle.game.proofs.Core.{users-sum, core-to-bound, bound-to-need, need-to-core, core-nonneg, enough}
-use Rattle.game.proofs.Bump.{squares, below-cong}
+use Rattle.game.proofs.NaturalShares.{users-by-vertex, natural-core}
+use Rattle.game.proofs.Core.{core-to-bound, bound-to-need, need-to-core, core-nonneg, enough}
+use Rattle.game.proofs.Bump.{squares}
 use Rattle.game.proofs.LevelRule.{Reached, Admits, reached-total}
 use Rattle.game.proofs.LevelList.{view, view-off, Stands, level-stands}
 use Rattle.answers.specs.Answer.{Check, accepted, _then_}
@@ -105,38 +106,14 @@ module _ (t : Tree) (ok : treeCheck t ≡ accepted) (caps : List ℕ) where
     over-given : (v : ℕ) → over-at (network t) (map pos given) v ≡ view (network t) given v
     over-given v = ap (λ (x : ℤ). pick (network t .member v) (plus x)) (shares-given (number (network t) v))
 
-    under-given : (v : ℕ) → under-at (network t) (map pos given) v ≡ 0
-    under-given v = ap (λ (x : ℤ). pick (network t .member v) (minus x)) (shares-given (number (network t) v)) ∙ pick-zero (network t .member v)
-
-    adds-up : AddsUp (network t) (map pos given)
-    unfolding wholeCost
-    adds-up =
-        less-same (pays (network t) (map pos given) (λ j. true)) (pos (wholeCost (network t))) (less-pays (network t) (map pos given) (λ j. true))
-        (less-parts (pos (wholeCost (network t))))
-        (omega (
-          arith,
-          sum-cong (network t .arcs) (λ v i. over-given v),
-          sum-zero (network t .arcs) (λ v i. under-given v),
-          reached-total (network t) rooted (view (network t) caps) (network t .cost) (view-off (network t) caps)
-              (none-short (network t) caps (network t .arcs) none) (view (network t) given) reached,
-        ))
-
-    given-enough : (k : ℕ) → IsArc (network t) k → pos (need (network t) k) ≤ℤ pays (network t) (map pos given) (users (network t) k)
-    unfolding sumBelow
-    given-enough k i =
-        less-le (pos (need (network t) k)) (pays (network t) (map pos given) (users (network t) k)) (less-parts (pos (need (network t) k)))
-        (less-pays (network t) (map pos given) (users (network t) k))
-        (omega (
-          arith,
-          users-sum (network t) (map pos given) (over-at (network t) (map pos given)) (λ v j m. pick-no (plus (share (map pos given) (number (network t) v))) m) k,
-          users-sum (network t) (map pos given) (under-at (network t) (map pos given)) (λ v j m. pick-no (minus (share (map pos given) (number (network t) v))) m) k,
-          below-cong (network t) (over-at (network t) (map pos given)) (view (network t) given) k (λ v j. over-given v),
-          sum-zero (network t .arcs) (λ v j. ap (pick (atOrBelow (network t) k v)) (under-given v) ∙ pick-zero (atOrBelow (network t) k v)),
-          reached .kept k (i .first) (i .last),
-        ))
-
     by-need : CoreByNeed (network t) (map pos given)
-    by-need = record { adds-up = adds-up; users-enough = given-enough }
+    unfolding wholeCost
+    by-need =
+        natural-core (network t) given
+        (members-sum (network t .arcs) (network t .member) (λ j. getD given j 0)
+        ∙ reached-total (network t) rooted (view (network t) caps) (network t .cost) (view-off (network t) caps)
+        (none-short (network t) caps (network t .arcs) none) (view (network t) given) reached)
+        (λ k i. omega (arith, users-by-vertex (network t) (λ j. getD given j 0) k, reached .kept k (i .first) (i .last)))
 
     keeps-caps : (j : ℕ) → j < memberCount (network t) → share (map pos given) j ≤ℤ pos (getD caps j 0)
     keeps-caps j h =

@@ -1,7 +1,7 @@
 -- The search for an arc whose users' caps are short of its need.
 use Prim.Native.Nat.{ℕ, zero, suc, _≤_, _<_}
-use mathlib.Core.Path.{_≡_, sym, _∙_, subst}
-use mathlib.Core.Bool.{true, false}
+use mathlib.Core.Path.{_≡_, sym, ap, _∙_, subst}
+use mathlib.Core.Bool.{Bool, true, false, cond}
 use mathlib.Core.Logic.{⊎-elim}
 use mathlib.Core.List.{List}
 use native.Mathlib.Decide.{ℕ-discrete}
@@ -16,11 +16,11 @@ use Rattle.answers.specs.Level.{capSum, shortArc}
 module _ (n : Network) (caps : List ℕ) where
   short-here : (k : ℕ) → ltb (capSum n caps (suc k)) (need n (suc k)) ≡ true → shortArc n caps (suc k) ≡ suc k
   unfolding shortArc
-  short-here k b = rw b
+  short-here k b = ap (λ (x : Bool). cond x (suc k) (shortArc n caps k)) b
 
   short-below : (k : ℕ) → ltb (capSum n caps (suc k)) (need n (suc k)) ≡ false → shortArc n caps (suc k) ≡ shortArc n caps k
   unfolding shortArc
-  short-below k b = rw b
+  short-below k b = ap (λ (x : Bool). cond x (suc k) (shortArc n caps k)) b
 
   pub none-short : (k : ℕ) → shortArc n caps k ≡ 0 → (f : ℕ) → In k f → need n f ≤ capSum n caps f
   none-short zero e f i = absurd (omega arith)

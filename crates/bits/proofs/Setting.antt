@@ -11,7 +11,7 @@ use lib.Bits.{bitOr, or-shr, or-step}
 use lib.Dec.{eqb, eqb·zero-suc, eqb·suc-zero, eqb·suc-suc}
 use lib.ListN.{length, getD, set}
 use lib.Seq.{getD-set-same, getD-set-other}
-use Rattle.game.specs.Group.{digit, bit}
+use Rattle.game.specs.Group.{digit, bit, wordsOf}
 use Rattle.game.proofs.Bools.{same-test}
 use Rattle.game.proofs.Encoding.{digit-half}
 
@@ -39,14 +39,14 @@ power-digit (suc i) (suc k) =
 pub set-digit : (w i k : ℕ) → digit (bitOr w (2 ^ i)) k ≡ (digit w k || eqb k i)
 set-digit w i k = or-digit w (2 ^ i) k ∙ ap (λ b. digit w k || b) (power-digit i k)
 
--- bit j set in its word
-pub bit-set : (words : List ℕ) (w i j : ℕ) → j / 64 < length words
+-- bit j set in its word, where the words are a group's and so are sixteen
+pub bit-set : (words : List ℕ) (w i j : ℕ) → words ≡ wordsOf (bit words) → j < 1024
     → ((k : ℕ) → digit w k ≡ (digit (getD words (j / 64) 0) k || eqb k (j % 64)))
     → bit (set words (j / 64) w) i ≡ (bit words i || eqb i j)
-unfolding bit
-bit-set words w i j h d =
+unfolding bit wordsOf
+bit-set words w i j g h d =
     elim (ℕ-discrete (i / 64) (j / 64)) [
-      | yes e ↦ rw (e, getD-set-same words (j / 64) w 0 h, d (i % 64)) (ap (λ b. digit (getD words (j / 64) 0) (i % 64) || b) (same-place e))
+      | yes e ↦ rw (e, getD-set-same words (j / 64) w 0 (omega (arith, ap length g)), d (i % 64)) (ap (λ b. digit (getD words (j / 64) 0) (i % 64) || b) (same-place e))
       | no n ↦ rw (getD-set-other words (j / 64) (i / 64) w 0 n, ne-eqb i j (λ e. n (ap (λ (x : ℕ). x / 64) e)), or-false)
     ]
   where

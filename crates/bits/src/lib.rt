@@ -10,12 +10,20 @@ ghost use Rattle.checks.specs.Checked.{checkOf};
 ghost use Rattle.bits.specs.Words.{ClearRun};
 use checks::Checked;
 
+// Whether bit i of a word is set.
+pub fn in_word(word: u64, i: usize) -> bool
+    requires { ⌜ i < 64 ⌝ }
+    ensures { λ r. ⌜ r ≡ digit word i ⌝ }
+{
+    word >> i & 1 == 1
+}
+
 // Whether member j is in the group.
-pub fn has(words: [u64; 16], j: usize) -> bool
+fn has(words: [u64; 16], j: usize) -> bool
     ensures { λ r. ⌜ r ≡ bit words j ⌝ }
 {
     if j < 1024 {
-        words[j / 64] >> (j % 64) & 1 == 1
+        in_word(words[j / 64], j % 64)
     } else {
         false
     }
@@ -29,16 +37,15 @@ fn set_in_word(word: u64, i: usize) -> u64
     word | (1 << i)
 }
 
-// The group with member j put in where `on`; no group has a member 1024 or beyond. Words that are a group's stay so.
-pub fn with(words: [u64; 16], j: usize, on: bool) -> [u64; 16]
-    ensures { λ r. ⌜ ((i : ℕ) → bit r i ≡ (bit words i || (on && (eqb i j && ltb j 1024)))) ⌝ }
-    ensures { λ r. ⌜ (words ≡ wordsOf (bit words) → r ≡ wordsOf (bit r)) ⌝ }
+// Puts member j into the group where `on`; no group has a member 1024 or beyond.
+pub fn put(words: &mut [u64; 16], j: usize, on: bool)
+    requires { ⌜ now words ≡ wordsOf (bit (now words)) ⌝ }
+    ensures { λ _. ⌜ ((i : ℕ) → bit (now (words .exit)) i ≡ (bit (now (words .entry)) i || (on && (eqb i j && ltb j 1024)))) ⌝ }
+    ensures { λ _. ⌜ now (words .exit) ≡ wordsOf (bit (now (words .exit))) ⌝ }
 {
-    let mut more = words;
     if on && j < 1024 {
-        more[j / 64] = set_in_word(words[j / 64], j % 64);
+        words[j / 64] = set_in_word(words[j / 64], j % 64);
     }
-    more
 }
 
 // How many bits of a word are set.

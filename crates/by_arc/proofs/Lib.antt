@@ -1,2 +1,3 @@
-pub mod Handing
-pub mod Giving
+pub mod Climbing
+pub mod Serving
+pub mod Split

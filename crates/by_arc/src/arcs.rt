@@ -1,30 +1,36 @@
-// The arcs from the last down to the first, each given out among its users.
-use crate::hand::hand_out;
+// The by-arc split of an accepted tree.
+use crate::divide::divide;
+use crate::shares::write_shares;
 ghost use mathlib.Core.Path.{_≡_};
 ghost use mathlib.Core.List.{[]};
-ghost use Prim.Native.Nat.{_≤_, _<_};
 ghost use lib.ListN.{length};
 ghost use Rattle.game.specs.Network.{members};
 ghost use Rattle.game.specs.Tree.{treeOf, network};
-ghost use Rattle.game.specs.ByArc.{giveArc, byArc};
+ghost use Rattle.game.specs.ByArc.{byArc};
 ghost use Rattle.answers.specs.Answer.{accepted};
 ghost use Rattle.answers.specs.Checks.{treeCheck};
-ghost use Rattle.by_arc.specs.Handed.{Small};
 
-// Gives out the cost of arc k.
-fn give_arc(parents: &[u16], costs: &[u32], vertices: &[u16], shares: &mut [u64], k: usize)
+// The last three lists are room for the numbers of users, their parts and the units left over.
+fn split_in(
+    parents: &[u16],
+    costs: &[u32],
+    vertices: &[u16],
+    shares: &mut [u64],
+    counts: &mut [u64],
+    each: &mut [u64],
+    more: &mut [u64],
+)
     requires { ⌜ treeCheck (treeOf (now parents) (now costs)) ≡ accepted ⌝ }
     requires { ⌜ now vertices ≡ members (network (treeOf (now parents) [])) ⌝ }
     requires { ⌜ length (now shares) ≡ length (now vertices) ⌝ }
-    requires { ⌜ Small (now shares) ⌝ }
-    requires { ⌜ 0 < k ⌝ }
-    requires { ⌜ k ≤ length (now parents) ⌝ }
-    ensures { λ _. ⌜ now (shares .exit) ≡ giveArc (network (treeOf (now (parents .entry)) (now (costs .entry)))) k (now (shares .entry)) ⌝ }
+    requires { ⌜ length (now counts) ≡ length (now parents) ⌝ }
+    requires { ⌜ length (now each) ≡ length (now parents) ⌝ }
+    requires { ⌜ length (now more) ≡ length (now parents) ⌝ }
+    ensures { λ _. ⌜ now (shares .exit) ≡ byArc (network (treeOf (now (parents .entry)) (now (costs .entry)))) ⌝ }
 {
-    let users = users::users_of(parents, vertices, k);
-    let count = users.count;
-    let list = users.list;
-    hand_out(&list[0..count], shares, costs[k - 1]);
+    tree::write_user_counts(parents, vertices, shares, counts);
+    divide(costs, counts, each, more);
+    write_shares(parents, vertices, each, more, shares);
 }
 
 pub fn split_arcs(parents: &[u16], costs: &[u32], vertices: &[u16], shares: &mut [u64])
@@ -33,10 +39,17 @@ pub fn split_arcs(parents: &[u16], costs: &[u32], vertices: &[u16], shares: &mut
     requires { ⌜ length (now shares) ≡ length (now vertices) ⌝ }
     ensures { λ _. ⌜ now (shares .exit) ≡ byArc (network (treeOf (now (parents .entry)) (now (costs .entry)))) ⌝ }
 {
-    tree::clear(shares);
-    let mut k = parents.len();
-    while 0 < k {
-        give_arc(parents, costs, vertices, shares, k);
-        k -= 1;
-    }
+    let m = parents.len();
+    let mut counts = [0u64; 1023];
+    let mut each = [0u64; 1023];
+    let mut more = [0u64; 1023];
+    split_in(
+        parents,
+        costs,
+        vertices,
+        shares,
+        &mut counts[0..m],
+        &mut each[0..m],
+        &mut more[0..m],
+    );
 }

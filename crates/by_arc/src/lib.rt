@@ -1,5 +1,6 @@
 // The by-arc split: each arc's cost is divided among its users, the units left over going to the lowest numbers.
 mod arcs;
-mod hand;
+mod divide;
+mod shares;
 
 pub use arcs::split_arcs;

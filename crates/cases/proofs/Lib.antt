@@ -3,4 +3,3 @@ mod Fields
 mod HexLaws
 mod Lists
 mod Rests
-mod Turned

@@ -1,4 +1,3 @@
 pub mod Fields
 pub mod Hex
 pub mod Lists
-pub mod Signed

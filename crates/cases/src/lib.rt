@@ -5,5 +5,4 @@ pub mod list;
 pub mod number;
 pub mod print;
 pub mod rest;
-mod signed;
 mod width;

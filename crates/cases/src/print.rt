@@ -1,6 +1,5 @@
 // Printing text, numbers and lists to standard output.
 use crate::list::MOST;
-use crate::signed;
 use crate::width;
 use libc::STDOUT_FILENO;
 ghost use Prim.Native.Nat.{_≤_};
@@ -24,9 +23,10 @@ pub fn labelled(label: &[u8], n: u64) {
 pub fn labelled_signed(label: &[u8], n: i64) {
     text(label);
     if n < 0 {
-        text(b"-");
+        labelled(b"-", numbers::minus(n));
+    } else {
+        number(numbers::plus(n));
     }
-    number(signed::magnitude(n));
 }
 
 // Entry i of a list, with a comma before it unless it is the first.

@@ -1,12 +1,11 @@
 // Copies of a list at another width.
-use crate::signed;
 ghost use Prim.Native.Nat.{_≤_};
 ghost use mathlib.Core.List.{map};
 ghost use mathlib.Core.Path.{_≡_};
 ghost use lib.ListN.{length};
 ghost use lib.Seq.{paste};
 ghost use Rattle.cases.specs.Lists.{Front};
-ghost use Rattle.cases.specs.Signed.{signedOf};
+ghost use Rattle.numbers.specs.Signed.{signed64};
 
 // The first n entries, into the front of to.
 pub fn narrow16(from: &[u64], n: usize, to: &mut [u16])
@@ -38,11 +37,11 @@ pub fn narrow32(from: &[u64], n: usize, to: &mut [u32])
 pub fn to_signed(from: &[u64], n: usize, to: &mut [i64])
     requires { ⌜ n ≤ length (now from) ⌝ }
     requires { ⌜ n ≤ length (now to) ⌝ }
-    ensures { λ _. ⌜ now (to .exit) ≡ paste (now (to .entry)) 0 (map signedOf (now (from .entry))) n ⌝ }
+    ensures { λ _. ⌜ now (to .exit) ≡ paste (now (to .entry)) 0 (map signed64 (now (from .entry))) n ⌝ }
 {
     let mut i = 0;
     while i < n {
-        to[i] = signed::of_bits(from[i]);
+        to[i] = numbers::of_bits(from[i]);
         i += 1;
     }
 }

@@ -1,36 +1,68 @@
--- The users of an arc as the list that the split works on.
-use Prim.Native.Nat.{ℕ, _-_, _≤_}
-use mathlib.Core.Path.{_≡_, sym, _∙_, subst}
-use mathlib.Core.List.{List, []}
+-- The key that is found takes the whole amount, and the shares raised to it are the amount given out unit by unit.
+use Prim.Native.Nat.{ℕ, suc, _+_, _/_, _%_, _≤_, _<_}
+use mathlib.Core.Path.{_≡_, sym, ap₂, _∙_, subst}
+use mathlib.Core.List.{List}
+use native.Mathlib.Decide.{decLt}
 use native.Mathlib.Omega.{arith}
 use lib.ListN.{length}
-use Rattle.game.specs.Network.{members, memberCount}
-use Rattle.game.specs.Tree.{treeOf, network}
+use lib.Seq.{ext-getD}
+use Rattle.game.specs.Network.{Network, memberCount}
 use Rattle.game.specs.Core.{users}
 use Rattle.game.specs.Level.{units}
 use Rattle.game.specs.Raise.{fill}
+use Rattle.game.proofs.Raise.{Raised, fill-step, fill-next-level, units-raise}
 use Rattle.answers.specs.Checks.{mostShare}
-use Rattle.answers.specs.Level.{Capped}
-use Rattle.tree.specs.Passes.{Sound}
-use Rattle.users.specs.Users.{usersOf}
-use Rattle.users.proofs.Passing.{passing-length, passing-below}
-use Rattle.users.proofs.UserPass.{vertices-few, vertices-count}
-use Rattle.fill.specs.Fill.{Numbers, Shared}
-use Rattle.fill.proofs.Bulk.{raised-units}
+use Rattle.users.specs.Users.{Lists}
+use Rattle.fill.specs.Fill.{mostKey, Numbers, taken, filled, Greatest, raised, GivenOut}
+use Rattle.fill.proofs.Listed.{list-length, number-below, listed}
+use Rattle.fill.proofs.Turns.{raised-length, raised-entry}
 
-module _ (parents vertices caps shares : List ℕ) (k : ℕ) (us : List ℕ) (sound : Sound parents) (are : vertices ≡ members (network (treeOf parents [])))
-    (capped : Capped (length vertices) caps) (sized : length shares ≡ length vertices) (list : us ≡ usersOf (network (treeOf parents [])) k) where
-  pub users-numbers : Numbers us caps shares
-  users-numbers =
-      rw list
-      (record {
-        few = omega (arith, passing-length (users (network (treeOf parents [])) k) 0 (memberCount (network (treeOf parents []))), vertices-count parents vertices are, vertices-few parents vertices are sound);
-        numbered = λ i h. omega (arith, passing-below (users (network (treeOf parents [])) k) 0 (memberCount (network (treeOf parents []))) i h, vertices-count parents vertices are, capped .sized);
-        same = sized ∙ sym (capped .sized);
-      })
+module _ (n : Network) (k : ℕ) (us : List ℕ) (lists : Lists n k us) (caps shares : List ℕ) (sized : length caps ≡ memberCount n) (few : memberCount n ≤ 1023)
+    (same : length shares ≡ length caps) where
+  pub lists-numbers : Numbers us caps shares
+  lists-numbers = record { few = omega (arith, list-length n k us lists); numbered = λ i h. omega (arith, number-below n k us lists i h); same = same }
 
-  pub shared-units : {amount : ℕ} {after : List ℕ} → amount ≤ fill (network (treeOf parents [])) caps k shares mostShare 0 → Shared us caps amount shares after
-      → after ≡ units (network (treeOf parents [])) caps k amount shares
-  shared-units {amount} {after} room s =
-      let t = subst (λ (l : List ℕ). Shared l caps amount shares after) list s in
-      t .is ∙ raised-units (network (treeOf parents [])) caps k shares (sized ∙ vertices-count parents vertices are) amount (t .level) room (t .highest)
+  at-key : (key : ℕ) → filled us caps shares key ≡ fill n caps k shares (key / 1024) (key % 1024)
+  at-key key = lists .sums (taken caps shares key)
+
+  -- the next key takes at most one unit more
+  one-key : (key : ℕ) → filled us caps shares (key + 1) ≤ filled us caps shares key + 1
+  one-key key =
+      elim (decLt (key % 1024) 1023) [
+        | yes h ↦
+            let level : (key + 1) / 1024 ≡ key / 1024 = omega arith in
+            let mark : (key + 1) % 1024 ≡ suc (key % 1024) = omega arith in
+            omega (arith, at-key key, at-key (key + 1), ap₂ (fill n caps k shares) level mark, fill-step n caps k shares (key / 1024) (key % 1024))
+        | no h ↦
+            let level : (key + 1) / 1024 ≡ suc (key / 1024) = omega arith in
+            let mark : (key + 1) % 1024 ≡ 0 = omega arith in
+            omega (arith, at-key key, at-key (key + 1), ap₂ (fill n caps k shares) level mark, fill-next-level n caps k shares (key / 1024) (key % 1024) (omega arith))
+      ]
+
+  module _ (amount key : ℕ) (room : amount ≤ fill n caps k shares mostShare 0) (greatest : Greatest us caps shares amount key) where
+    whole : fill n caps k shares (key / 1024) (key % 1024) ≡ amount
+    whole =
+        elim (decLt key mostKey) [
+          | yes h ↦ omega (arith, at-key key, greatest .enough, greatest .no-greater h, one-key key)
+          | no h ↦
+              let level : key / 1024 ≡ mostShare = omega (arith, greatest .within) in
+              let mark : key % 1024 ≡ 0 = omega (arith, greatest .within) in
+              omega (arith, at-key key, greatest .enough, room, ap₂ (fill n caps k shares) level mark)
+        ]
+
+    by-unit : Raised n caps k shares (key / 1024) (key % 1024) (units n caps k amount shares)
+    by-unit =
+        subst (λ (a : ℕ). Raised n caps k shares (key / 1024) (key % 1024) (units n caps k a shares)) whole
+        (units-raise n caps k shares (same ∙ sized) (key / 1024) (key % 1024))
+
+    raised-units : raised caps key us shares ≡ units n caps k amount shares
+    raised-units =
+        ext-getD 0 (raised caps key us shares) (units n caps k amount shares) (raised-length caps key us shares ∙ same ∙ sized ∙ sym (by-unit .sized))
+        (λ j h.
+        let within : j < memberCount n = omega (arith, raised-length caps key us shares) in
+        raised-entry caps key us (users n k j) shares j (omega arith) (listed n k us lists j within) ∙ sym (by-unit .raised j within))
+
+pub given-out : {us caps shares after : List ℕ} {amount key : ℕ} → Numbers us caps shares → Greatest us caps shares amount key → after ≡ raised caps key us shares
+    → GivenOut us caps amount shares after
+given-out {us} {caps} {shares} {after} {amount} {key} numbers greatest is =
+    record { is = λ n k lists sized few room. is ∙ raised-units n k us lists caps shares sized few (numbers .same) amount key room greatest }

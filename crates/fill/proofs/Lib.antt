@@ -1,5 +1,4 @@
-pub mod Raising
-pub mod Bulk
+pub mod Listed
 pub mod Turns
 pub mod Bisection
 pub mod Arc

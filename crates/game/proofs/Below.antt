@@ -48,7 +48,7 @@ module _ (n : Network) (rooted : Rooted n) where
   unfolding climb
   below-source k = refl
 
-  pub below-step : (k v : ℕ) → atOrBelow n k (suc v) ≡ (eqb k (suc v) || atOrBelow n k (n .parent (suc v)))
+  below-step : (k v : ℕ) → atOrBelow n k (suc v) ≡ (eqb k (suc v) || atOrBelow n k (n .parent (suc v)))
   unfolding climb
   below-step k v =
       ap (λ (b : Bool). eqb k (suc v) || b)
@@ -107,7 +107,7 @@ module _ (n : Network) (rooted : Rooted n) where
   all-below-source = from-source (λ v. atOrBelow n 0 v ≡ true) (below-self 0) (λ v ih. below-parent 0 v ih)
 
   -- v itself, or at or below its parent, and never both
-  below-pick : (k v x : ℕ) → pick (atOrBelow n k (suc v)) x ≡ pick (eqb k (suc v)) x + pick (atOrBelow n k (n .parent (suc v))) x
+  pub below-pick : (k v x : ℕ) → pick (atOrBelow n k (suc v)) x ≡ pick (eqb k (suc v)) x + pick (atOrBelow n k (n .parent (suc v))) x
   below-pick k v x =
       ap (λ (b : Bool). pick b x) (below-step k v)
       ∙ pick-either (eqb k (suc v)) (atOrBelow n k (n .parent (suc v))) x

@@ -21,11 +21,11 @@ module _ (n : Network) where
       let s = shared-by (memberCount n) (λ j. true) (users n k) (sym (used-by-number n (λ j. true) k) ∙ e) in
       user-count-pos n k (s .which) (s .below) (s .other)
 
-  pub give-length : (k : ℕ) (l : List ℕ) → length (giveArc n k l) ≡ memberCount n
+  give-length : (k : ℕ) (l : List ℕ) → length (giveArc n k l) ≡ memberCount n
   unfolding giveArc
   give-length k l = list-length (λ i. getD l (pred i) 0 + gift n k (pred i)) 0 (memberCount n)
 
-  pub give-at : (k : ℕ) (l : List ℕ) (j : ℕ) → j < memberCount n → getD (giveArc n k l) j 0 ≡ getD l j 0 + gift n k j
+  give-at : (k : ℕ) (l : List ℕ) (j : ℕ) → j < memberCount n → getD (giveArc n k l) j 0 ≡ getD l j 0 + gift n k j
   unfolding giveArc
   give-at k l j h = list-at (λ i. getD l (pred i) 0 + gift n k (pred i)) 0 (memberCount n) j h
 

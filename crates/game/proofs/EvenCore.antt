@@ -1,47 +1,30 @@
 -- A division that gives each arc's cost evenly to its users meets every need and adds up.
 use Prim.Native.Nat.{ℕ, pred, _≤_, _<_}
-use mathlib.Core.Path.{_≡_, refl, sym, ap, _∙_}
+use mathlib.Core.Path.{_≡_, sym, ap, _∙_}
 use mathlib.Core.Bool.{Bool, true, false}
 use mathlib.Core.Logic.{⊎-elim}
 use mathlib.Core.List.{List, map}
 use native.Mathlib.Omega.{arith}
-use lib.ListN.{getD, List·getD-map}
-use lib.IntN.{ℤ, pos}
-use lib.Signed.{_≤ℤ_}
+use lib.ListN.{getD}
+use lib.IntN.{pos}
 use Rattle.game.specs.Sum.{pick, sum}
-use Rattle.game.specs.Network.{Network, atOrBelow, memberCount, sumBelow, need, wholeCost, members}
-use Rattle.game.specs.Proposal.{pickℤ, share, pays}
-use Rattle.game.specs.Core.{users, IsArc, AddsUp, CoreByNeed}
+use Rattle.game.specs.Network.{Network, atOrBelow, memberCount, sumBelow, wholeCost, members}
+use Rattle.game.specs.Core.{users, CoreByNeed}
 use Rattle.game.specs.Shapley.{Even}
 use Rattle.game.proofs.Bools.{both, pick-yes, pick-no, pick-zero}
 use Rattle.game.proofs.Sums.{In, sum-cong, sum-mono, sum-swap, sum-pick}
 use Rattle.game.proofs.Below.{Rooted, below-trans}
-use Rattle.game.proofs.Integers.{less-parts, less-le, sum-pos-ℤ}
-
--- what a group pays of a list without negative shares
-pick-pos-ℤ : (b : Bool) (x : ℕ) → pickℤ b (pos x) ≡ pos (pick b x)
-pick-pos-ℤ true x = refl
-pick-pos-ℤ false x = refl
+use Rattle.game.proofs.NaturalShares.{has, natural-core}
 
 module _ (n : Network) (l : List ℕ) where
-  pays-pos : (g : ℕ → Bool) → pays n (map pos l) g ≡ pos (sum (memberCount n) (λ i. pick (g (pred i)) (getD l (pred i) 0)))
-  unfolding pays
-  pays-pos g =
-      sum-pos-ℤ (memberCount n) (λ j. pickℤ (g j) (share (map pos l) j)) (λ j. pick (g j) (getD l j 0))
-      (λ j h. ap (pickℤ (g j)) (List·getD-map pos l j 0) ∙ pick-pos-ℤ (g j) (getD l j 0))
-
   -- the shares are the sums of the arcs' gifts
   module _ (gift : ℕ → ℕ → ℕ) (even : (k : ℕ) → In (n .arcs) k → Even n k (gift k))
       (sums : (j : ℕ) → j < memberCount n → getD l j 0 ≡ sum (n .arcs) (λ k. gift k j)) where
     -- what a group pays, arc by arc
-    by-arcs : (g : ℕ → Bool) → sum (memberCount n) (λ i. pick (g (pred i)) (getD l (pred i) 0)) ≡ sum (n .arcs) (λ k. sum (memberCount n) (λ i. pick (g (pred i)) (gift k (pred i))))
+    by-arcs : (g : ℕ → Bool) → has n l g ≡ sum (n .arcs) (λ k. sum (memberCount n) (λ i. pick (g (pred i)) (gift k (pred i))))
     by-arcs g =
         sum-cong (memberCount n) (λ i h. ap (pick (g (pred i))) (sums (pred i) (omega (arith, h .low, h .high))) ∙ sym (sum-pick (g (pred i)) (n .arcs) (λ k. gift k (pred i))))
         ∙ sum-swap (memberCount n) (n .arcs) (λ i k. pick (g (pred i)) (gift k (pred i)))
-
-    even-total : AddsUp n (map pos l)
-    unfolding wholeCost
-    even-total = pays-pos (λ j. true) ∙ ap pos (by-arcs (λ j. true) ∙ sum-cong (n .arcs) (λ k i. even k i .all))
 
     -- the users of an arc at or below f use f too
     to-users : Rooted n → (f k : ℕ) → In (n .arcs) k → pick (atOrBelow n f k) (n .cost k) ≤ sum (memberCount n) (λ i. pick (users n f (pred i)) (gift k (pred i)))
@@ -64,13 +47,13 @@ module _ (n : Network) (l : List ℕ) where
             (λ (u : users n k j ≡ false). ap (pick (users n f j)) (even k i .others j u) ∙ pick-zero (users n f j) ∙ sym (even k i .others j u))
             (both (users n k j))
 
-    enough : Rooted n → (f : ℕ) → IsArc n f → pos (need n f) ≤ℤ pays n (map pos l) (users n f)
-    unfolding sumBelow
-    enough rooted f i =
-        rw (pays-pos (users n f), by-arcs (users n f))
-        (less-le (pos (need n f)) (pos (sum (n .arcs) (λ k. sum (memberCount n) (λ v. pick (users n f (pred v)) (gift k (pred v))))))
-        (less-parts (pos (need n f))) (less-parts (pos (sum (n .arcs) (λ k. sum (memberCount n) (λ v. pick (users n f (pred v)) (gift k (pred v)))))))
-        (omega (arith, sum-mono (n .arcs) {f = λ k. pick (atOrBelow n f k) (n .cost k)} {g = λ k. sum (memberCount n) (λ v. pick (users n f (pred v)) (gift k (pred v)))} (to-users rooted f))))
-
     pub even-core : Rooted n → CoreByNeed n (map pos l)
-    even-core rooted = record { adds-up = even-total; users-enough = enough rooted }
+    unfolding sumBelow wholeCost
+    even-core rooted =
+        natural-core n l (by-arcs (λ j. true) ∙ sum-cong (n .arcs) (λ k i. even k i .all))
+        (λ f i.
+        omega (
+          arith,
+          by-arcs (users n f),
+          sum-mono (n .arcs) {f = λ k. pick (atOrBelow n f k) (n .cost k)} {g = λ k. sum (memberCount n) (λ v. pick (users n f (pred v)) (gift k (pred v)))} (to-users rooted f),
+        ))

@@ -31,5 +31,6 @@ mod Weights
 pub mod Shapley
 pub mod Even
 pub mod Gifts
+pub mod NaturalShares
 pub mod EvenCore
 pub mod ByArc

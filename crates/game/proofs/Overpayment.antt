@@ -96,7 +96,7 @@ module _ (n : Network) where
     abbrev pub group-sum : (ℕ → ℕ) → (ℕ → Bool) → ℕ
     group-sum x g = sum (n .arcs) (λ v. pick (byNumber n g v) (x v))
 
-    by-vertex : (g : ℕ → Bool) (x : ℕ → ℕ)
+    pub by-vertex : (g : ℕ → Bool) (x : ℕ → ℕ)
         → sum (memberCount n) (λ i. pick (g (pred i)) (x (pred i))) ≡ group-sum (λ v. pick (n .member v) (x (number n v))) g
     by-vertex g x =
         members-sum (n .arcs) (n .member) (λ j. pick (g j) (x j)) ∙ sum-cong (n .arcs) (λ v i. pick-swap (n .member v) (g (number n v)) (x (number n v)))

@@ -2,7 +2,7 @@
 use Prim.Native.Nat.{ℕ, zero, suc, pred, _+_, _-_, _≤_, _<_}
 use mathlib.Core.Path.{_≡_, sym, ap, _∙_, subst}
 use mathlib.Core.Bool.{true, false}
-use mathlib.Core.Logic.{⊎-elim}
+use mathlib.Core.Logic.{_⊎_, inl, inr, ⊎-elim}
 use mathlib.Core.List.{List}
 use native.Mathlib.Decide.{decLt, ℕ-discrete}
 use native.Mathlib.Numerals.{add-one}
@@ -16,7 +16,7 @@ use Rattle.game.specs.Network.{Network, memberCount}
 use Rattle.game.specs.Core.{users}
 use Rattle.game.specs.Level.{mayTake, firstLeast, unit, units}
 use Rattle.game.specs.Raise.{smaller, rise, fill}
-use Rattle.game.proofs.Bools.{both, clash, and-both, and-first, and-second, pick-yes, pick-no}
+use Rattle.game.proofs.Bools.{both, and-both, and-first, and-second, pick-yes, pick-no}
 use Rattle.game.proofs.Sums.{sum-cong, sum-add, sum-zero, sum-at}
 use Rattle.game.proofs.Smallest.{is-first}
 
@@ -56,61 +56,76 @@ module _ (n : Network) (caps : List ℕ) (k : ℕ) (l : List ℕ) where
       (both (users n k j))
 
   -- all numbers served at a level are none at the next
-  next-level : (level j : ℕ) → j < memberCount n → rise n caps k l level (memberCount n) j ≡ rise n caps k l (suc level) 0 j
-  next-level level j h =
+  next-level : (level q j : ℕ) → memberCount n ≤ q → j < memberCount n → rise n caps k l level q j ≡ rise n caps k l (suc level) 0 j
+  next-level level q j all h =
       ap (λ (a : ℕ). pick (users n k j) (smaller (getD caps j 0) a - getD l j 0))
-      (omega (arith, pick-yes 1 (lt-ltb j (memberCount n) h), pick-no 1 (le-ltb j 0 (omega arith))))
-
-  -- number q is served on the way from a level to the next
-  pub record Served (level q : ℕ) : Type 0 where
-    pub is-user : users n k q ≡ true
-    pub reached : getD l q 0 ≤ level
-    pub room : level < getD caps q 0
+      (omega (arith, pick-yes 1 (lt-ltb j q (omega arith)), pick-no 1 (le-ltb j 0 (omega arith))))
 
   module _ (level q : ℕ) where
-    rise-served : Served level q → rise n caps k l level (suc q) q ≡ rise n caps k l level q q + 1
-    rise-served s =
-        omega (
-          arith,
-          rise-user level (suc q) q (s .is-user),
-          rise-user level q q (s .is-user),
-          pick-yes 1 (lt-ltb q (suc q) (omega arith)),
-          pick-no 1 (le-ltb q q (omega arith)),
-          s .reached,
-          s .room,
-        )
+    -- number q is served on the way from a level to the next
+    pub record Served : Type 0 where
+      pub is-member : q < memberCount n
+      pub is-user : users n k q ≡ true
+      pub reached : getD l q 0 ≤ level
+      pub room : level < getD caps q 0
 
-    rise-not : (Served level q → ⊥) → rise n caps k l level (suc q) q ≡ rise n caps k l level q q
-    rise-not unserved =
-        ⊎-elim
-        (λ (u : users n k q ≡ true).
-        let above = rise-user level (suc q) q u in
-        let here = rise-user level q q u in
-        let one = pick-yes 1 (lt-ltb q (suc q) (omega arith)) in
-        let none = pick-no 1 (le-ltb q q (omega arith)) in
-        elim (decLt level (getD l q 0)) [
-          | yes h ↦ omega (arith, above, here, one, none)
-          | no h ↦ elim (decLt level (getD caps q 0)) [
-            | yes r ↦ absurd (unserved (record { is-user = u; reached = omega arith; room = r }))
-            | no r ↦ omega (arith, above, here, one, none)
-          ]
-        ])
-        (λ (u : users n k q ≡ false).
-        pick-no (smaller (getD caps q 0) (level + pick (ltb q (suc q)) 1) - getD l q 0) u
-        ∙ sym (pick-no (smaller (getD caps q 0) (level + pick (ltb q q) 1) - getD l q 0) u))
-        (both (users n k q))
+    -- no member's part changes
+    pub record Unserved : Type 0 where
+      pub same : (j : ℕ) → j < memberCount n → rise n caps k l level (suc q) j ≡ rise n caps k l level q j
+
+    -- it is enough that q's does not
+    unserved : rise n caps k l level (suc q) q ≡ rise n caps k l level q q → Unserved
+    unserved e =
+        record {
+          same = λ j i.
+              elim (ℕ-discrete j q) [
+                | yes d ↦ subst (λ (u : ℕ). rise n caps k l level (suc q) u ≡ rise n caps k l level q u) (sym d) e
+                | no d ↦ rise-other level q j d
+              ];
+        }
+
+    -- what user q takes, with its number below the mark and not
+    served-parts : users n k q ≡ true
+        → (rise n caps k l level (suc q) q ≡ (getD caps q 0 - (getD caps q 0 - (level + 1))) - getD l q 0)
+        × (rise n caps k l level q q ≡ (getD caps q 0 - (getD caps q 0 - level)) - getD l q 0)
+    served-parts u = (
+      omega (arith, rise-user level (suc q) q u, pick-yes 1 (lt-ltb q (suc q) (omega arith))),
+      omega (arith, rise-user level q q u, pick-no 1 (le-ltb q q (omega arith))),
+    )
+
+    served-or-not : Served ⊎ Unserved
+    served-or-not =
+        elim (decLt q (memberCount n)) [
+          | yes h ↦ ⊎-elim
+              (λ (u : users n k q ≡ true).
+              elim (decLt level (getD l q 0)) [
+                | yes g ↦ inr (unserved (omega (arith, served-parts u .0, served-parts u .1)))
+                | no g ↦ elim (decLt level (getD caps q 0)) [
+                  | yes r ↦ inl (record { is-member = h; is-user = u; reached = omega arith; room = r })
+                  | no r ↦ inr (unserved (omega (arith, served-parts u .0, served-parts u .1)))
+                ]
+              ])
+              (λ (u : users n k q ≡ false).
+              inr
+              (unserved
+              (pick-no (smaller (getD caps q 0) (level + pick (ltb q (suc q)) 1) - getD l q 0) u
+              ∙ sym (pick-no (smaller (getD caps q 0) (level + pick (ltb q q) 1) - getD l q 0) u))))
+              (both (users n k q))
+          | no h ↦ inr (record { same = λ j i. rise-other level q j (λ e. omega arith) })
+        ]
+
+    rise-served : Served → rise n caps k l level (suc q) q ≡ rise n caps k l level q q + 1
+    rise-served s = omega (arith, served-parts (s .is-user) .0, served-parts (s .is-user) .1, s .reached, s .room)
 
     -- the others' parts are the same, so the sum goes with q's
-    fill-not : (Served level q → ⊥) → fill n caps k l level (suc q) ≡ fill n caps k l level q
-    fill-not unserved =
-        sum-cong (memberCount n)
-        (λ i h. elim (ℕ-discrete (pred i) q) [ yes d ↦ subst (λ (j : ℕ). rise n caps k l level (suc q) j ≡ rise n caps k l level q j) (sym d) (rise-not unserved) | no d ↦ rise-other level q (pred i) d ])
+    fill-not : Unserved → fill n caps k l level (suc q) ≡ fill n caps k l level q
+    fill-not s = sum-cong (memberCount n) (λ i h. s .same (pred i) (omega (arith, h .low, h .high)))
 
-    fill-served : q < memberCount n → Served level q → fill n caps k l level (suc q) ≡ fill n caps k l level q + 1
-    fill-served h s =
+    fill-served : Served → fill n caps k l level (suc q) ≡ fill n caps k l level q + 1
+    fill-served s =
         sum-cong (memberCount n) (λ i j. one-more i (j .low))
         ∙ sum-add (memberCount n) (λ i. rise n caps k l level q (pred i)) (λ i. pick (eqb (suc q) i) 1)
-        ∙ ap (λ (a : ℕ). fill n caps k l level q + a) (sum-at (memberCount n) (suc q) (λ i. 1) (omega arith))
+        ∙ ap (λ (a : ℕ). fill n caps k l level q + a) (sum-at (memberCount n) (suc q) (λ i. 1) (omega (arith, s .is-member)))
       where
         one-more : (i : ℕ) → 0 < i → rise n caps k l level (suc q) (pred i) ≡ rise n caps k l level q (pred i) + pick (eqb (suc q) i) 1
         one-more i p =
@@ -125,10 +140,14 @@ module _ (n : Network) (caps : List ℕ) (k : ℕ) (l : List ℕ) where
               | no d ↦ omega (arith, pick-no 1 (ne-eqb (suc q) i (λ e. d (omega arith))), rise-other level q (pred i) d)
             ]
 
+    -- one number more takes one unit more, or nothing
+    pub fill-step : fill n caps k l level (suc q) ≤ fill n caps k l level q + 1
+    fill-step = ⊎-elim (λ (s : Served). omega (arith, fill-served s)) (λ (s : Unserved). omega (arith, fill-not s)) served-or-not
+
     -- the rule's next unit goes to q
-    module _ (r : List ℕ) (h : q < memberCount n) (s : Served level q) (up : Raised level q r) where
+    module _ (r : List ℕ) (s : Served) (up : Raised level q r) where
       has-level : getD r q 0 ≡ level
-      has-level = omega (arith, up .raised q h, rise-user level q q (s .is-user), pick-no 1 (le-ltb q q (omega arith)), s .reached, s .room)
+      has-level = omega (arith, up .raised q (s .is-member), served-parts (s .is-user) .1, s .reached, s .room)
 
       may-q : mayTake n caps k r q ≡ true
       may-q = and-both (s .is-user) (lt-ltb (getD r q 0) (getD caps q 0) (omega (arith, has-level, s .room)))
@@ -145,7 +164,7 @@ module _ (n : Network) (caps : List ℕ) (k : ℕ) (l : List ℕ) where
 
       chosen : firstLeast (mayTake n caps k r) (λ j. getD r j 0) (memberCount n) ≡ suc q
       chosen =
-          is-first (mayTake n caps k r) (λ j. getD r j 0) q may-q (λ u i m. omega (arith, has-level, at-least u (omega arith) m, pick-yes 1 (lt-ltb u q i))) (memberCount n) h
+          is-first (mayTake n caps k r) (λ j. getD r j 0) q may-q (λ u i m. omega (arith, has-level, at-least u (omega (arith, s .is-member)) m, pick-yes 1 (lt-ltb u q i))) (memberCount n) (s .is-member)
           (λ u i m. omega (arith, has-level, at-least u i m))
 
       raised-unit : Raised level (suc q) (unit n caps k r)
@@ -156,64 +175,43 @@ module _ (n : Network) (caps : List ℕ) (k : ℕ) (l : List ℕ) where
             raised = λ j i.
                 elim (ℕ-discrete j q) [
                   | yes d ↦ subst (λ (u : ℕ). getD (set r q (getD r q 0 + 1)) u 0 ≡ getD l u 0 + rise n caps k l level (suc q) u) (sym d)
-                      (omega (arith, getD-set-same r q (getD r q 0 + 1) 0 (omega (arith, up .sized)), up .raised q h, rise-served s))
+                      (omega (arith, getD-set-same r q (getD r q 0 + 1) 0 (omega (arith, up .sized, s .is-member)), up .raised q (s .is-member), rise-served s))
                   | no d ↦ omega (arith, getD-set-other r q j (getD r q 0 + 1) 0 d, up .raised j i, rise-other level q j d)
                 ];
           })
 
-    raised-same : (r : List ℕ) → (Served level q → ⊥) → Raised level q r → Raised level (suc q) r
-    raised-same r unserved up =
-        record {
-          sized = up .sized;
-          raised = λ j i.
-              elim (ℕ-discrete j q) [
-                | yes d ↦ subst (λ (u : ℕ). getD r u 0 ≡ getD l u 0 + rise n caps k l level (suc q) u) (sym d) (omega (arith, up .raised q (omega arith), rise-not unserved))
-                | no d ↦ omega (arith, up .raised j i, rise-other level q j d)
-              ];
-        }
+    raised-same : (r : List ℕ) → Unserved → Raised level q r → Raised level (suc q) r
+    raised-same r s up = record { sized = up .sized; raised = λ j i. omega (arith, up .raised j i, s .same j i) }
 
-  one-number : (level q : ℕ) → q < memberCount n → Raised level q (units n caps k (fill n caps k l level q) l)
-      → Raised level (suc q) (units n caps k (fill n caps k l level (suc q)) l)
-  unfolding units
-  one-number level q h up =
-      ⊎-elim
-      (λ (u : users n k q ≡ true).
-      elim (decLt level (getD caps q 0)) [
-        | yes r ↦ elim (decLt level (getD l q 0)) [ yes g ↦ without (λ s. omega (arith, s .reached)) | no g ↦ with-one (record { is-user = u; reached = omega arith; room = r }) ]
-        | no r ↦ without (λ s. omega (arith, s .room))
-      ])
-      (λ (u : users n k q ≡ false). without (λ s. clash (s .is-user) u))
-      (both (users n k q))
-    where
-      with-one : Served level q → Raised level (suc q) (units n caps k (fill n caps k l level (suc q)) l)
-      with-one s =
-          subst (λ (t : ℕ). Raised level (suc q) (units n caps k t l)) (sym (fill-served level q h s ∙ add-one (fill n caps k l level q)))
-          (raised-unit level q (units n caps k (fill n caps k l level q) l) h s up)
+    one-number : Raised level q (units n caps k (fill n caps k l level q) l) → Raised level (suc q) (units n caps k (fill n caps k l level (suc q)) l)
+    unfolding units
+    one-number up =
+        ⊎-elim
+        (λ (s : Served).
+        subst (λ (t : ℕ). Raised level (suc q) (units n caps k t l)) (sym (fill-served s ∙ add-one (fill n caps k l level q)))
+        (raised-unit (units n caps k (fill n caps k l level q) l) s up))
+        (λ (s : Unserved).
+        subst (λ (t : ℕ). Raised level (suc q) (units n caps k t l)) (sym (fill-not s)) (raised-same (units n caps k (fill n caps k l level q) l) s up))
+        served-or-not
 
-      without : (Served level q → ⊥) → Raised level (suc q) (units n caps k (fill n caps k l level (suc q)) l)
-      without unserved =
-          subst (λ (t : ℕ). Raised level (suc q) (units n caps k t l)) (sym (fill-not level q unserved))
-          (raised-same level q (units n caps k (fill n caps k l level q) l) unserved up)
-
-  up-to : (level q : ℕ) → q ≤ memberCount n → Raised level 0 (units n caps k (fill n caps k l level 0) l) → Raised level q (units n caps k (fill n caps k l level q) l)
-  up-to level zero h up = up
-  up-to level (suc q) h up = one-number level q h (up-to level q (omega arith) up)
+  up-to : (level q : ℕ) → Raised level 0 (units n caps k (fill n caps k l level 0) l) → Raised level q (units n caps k (fill n caps k l level q) l)
+  up-to level zero up = up
+  up-to level (suc q) up = one-number level q (up-to level q up)
 
   -- everybody one above a level
-  pub fill-next-level : (level : ℕ) → fill n caps k l level (memberCount n) ≡ fill n caps k l (suc level) 0
-  fill-next-level level = sum-cong (memberCount n) (λ i j. next-level level (pred i) (omega (arith, j .low, j .high)))
+  pub fill-next-level : (level q : ℕ) → memberCount n ≤ q → fill n caps k l level q ≡ fill n caps k l (suc level) 0
+  fill-next-level level q all = sum-cong (memberCount n) (λ i j. next-level level q (pred i) all (omega (arith, j .low, j .high)))
 
-  to-next : (level : ℕ) → Raised level (memberCount n) (units n caps k (fill n caps k l level (memberCount n)) l)
-      → Raised (suc level) 0 (units n caps k (fill n caps k l (suc level) 0) l)
-  to-next level full =
-      subst (λ (t : ℕ). Raised (suc level) 0 (units n caps k t l)) (fill-next-level level)
-      (record { sized = full .sized; raised = λ j i. full .raised j i ∙ ap (λ (a : ℕ). getD l j 0 + a) (next-level level j i) })
+  to-next : (level q : ℕ) → memberCount n ≤ q → Raised level q (units n caps k (fill n caps k l level q) l) → Raised (suc level) 0 (units n caps k (fill n caps k l (suc level) 0) l)
+  to-next level q all full =
+      subst (λ (t : ℕ). Raised (suc level) 0 (units n caps k t l)) (fill-next-level level q all)
+      (record { sized = full .sized; raised = λ j i. full .raised j i ∙ ap (λ (a : ℕ). getD l j 0 + a) (next-level level q j all i) })
 
   -- as many units as a level takes, given out one by one, raise arc k's users to that level
-  pub units-raise : length l ≡ memberCount n → (level q : ℕ) → q ≤ memberCount n → Raised level q (units n caps k (fill n caps k l level q) l)
+  pub units-raise : length l ≡ memberCount n → (level q : ℕ) → Raised level q (units n caps k (fill n caps k l level q) l)
   unfolding units
-  units-raise len zero q h =
-      up-to 0 q h
+  units-raise len zero q =
+      up-to 0 q
       (subst (λ (t : ℕ). Raised 0 0 (units n caps k t l)) (sym (sum-zero (memberCount n) (λ i j. raised-none (pred i))))
       (record { sized = len; raised = λ j i. omega (arith, raised-none j) }))
-  units-raise len (suc level) q h = up-to (suc level) q h (to-next level (units-raise len level (memberCount n) (omega arith)))
+  units-raise len (suc level) q = up-to (suc level) q (to-next level (memberCount n) (omega arith) (units-raise len level (memberCount n)))

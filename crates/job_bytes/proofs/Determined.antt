@@ -1,5 +1,5 @@
 -- A number determines its bytes, and so a row's values determine the row.
-use Prim.Native.Nat.{ℕ, zero, suc, _+_, _*_, _-_, _^_, _<_, _≤_}
+use Prim.Native.Nat.{ℕ, zero, suc, pred, _+_, _*_, _-_, _^_, _<_, _≤_}
 use mathlib.Core.Path.{_≡_, sym, _∙_}
 use mathlib.Core.List.{List}
 use native.Mathlib.Nat.{add-zero, pow-succ'}
@@ -9,14 +9,16 @@ use native.Mathlib.Omega.{arith}
 use lib.ListN.{length, take}
 use lib.Seq.{take-suc}
 use lib.IntN.{pos, negsuc}
-use Rattle.job_bytes.specs.Numbers.{byteAt, littleEndian, signed64, entries, Bytes}
+use Rattle.game.proofs.Lists.{list-at}
+use Rattle.numbers.specs.Signed.{signed64}
+use Rattle.numbers.proofs.TwosComplement.{lower, upper}
+use Rattle.job_bytes.specs.Numbers.{byteAt, littleEndian, entries, Bytes}
 use Rattle.job_bytes.specs.Format.{parentAt, fillerAt, costAt, capAt, proposalAt}
-use Rattle.job_bytes.proofs.Entries.{entry}
-use Rattle.job_bytes.proofs.TwosComplement.{lower, upper}
 
 -- two lists with the same entries below n
 pub same-entries : {A : Type 0} (n : ℕ) (f g : ℕ → A) (d : A) → entries n f ≡ entries n g → (i : ℕ) → i < n → f i ≡ g i
-same-entries n f g d e i h = sym (entry n f d i h) ∙ rw e (entry n g d i h)
+unfolding entries
+same-entries n f g d e i h = sym (list-at (λ u. f (pred u)) d n i h) ∙ rw e (list-at (λ u. g (pred u)) d n i h)
 
 number-small : (bytes : List ℕ) → Bytes bytes → (width at : ℕ) → littleEndian bytes at width < 256 ^ width
 unfolding littleEndian

@@ -1,30 +1,19 @@
 -- Lists given entry by entry, and a loop that writes one into the front of another list.
-use Prim.Native.Nat.{ℕ, zero, suc, _+_, _-_, _<_, _≤_}
+use Prim.Native.Nat.{ℕ, suc, pred, _+_, _-_, _<_, _≤_}
 use mathlib.Core.Path.{_≡_, refl, sym, ap, _∙_}
-use mathlib.Core.List.{List, [], _∷_, _++_}
-use native.Mathlib.Decide.{decLt}
+use mathlib.Core.List.{List, _++_}
 use native.Mathlib.Nat.{sub-zero}
 use native.Mathlib.Numerals.{add-one}
 use native.Mathlib.Omega.{arith}
-use lib.ListN.{length, getD, set, take, drop, length-append, length-set, List·getD-append}
-use lib.Seq.{drop-cons, set-at, take-at, getD-at, append-snoc}
+use lib.ListN.{length, getD, set, take, drop, length-set}
+use lib.Seq.{drop-cons, set-at, take-at, append-snoc}
+use Rattle.game.proofs.Lists.{list-length}
 use Rattle.job_bytes.specs.Numbers.{entries}
 
 module _ {A : Type 0} where
   pub length-entries : (n : ℕ) (f : ℕ → A) → length (entries n f) ≡ n
   unfolding entries
-  length-entries zero f = refl
-  length-entries (suc n) f = omega (arith, length-append (entries n f) (f n ∷ []), length-entries n f)
-
-  pub entry : (n : ℕ) (f : ℕ → A) (d : A) (i : ℕ) → i < n → getD (entries n f) i d ≡ f i
-  unfolding entries
-  entry zero f d i h = absurd (omega arith)
-  entry (suc n) f d i h = elim (decLt i n) [
-    | yes l ↦ List·getD-append (entries n f) (f n ∷ []) d i (omega (arith, length-entries n f)) ∙ entry n f d i l
-    | no l ↦
-        let last : i ≡ n = omega arith in
-        rw last (getD-at (entries n f) (f n) [] d n (length-entries n f))
-  ]
+  length-entries n f = list-length (λ u. f (pred u)) (f 0) n
 
   -- one entry more
   entries-on : (i : ℕ) (f : ℕ → A) (l : List A) (v : A) → i < length l → v ≡ f i → set (entries i f ++ drop i l) i v ≡ entries (i + 1) f ++ drop (i + 1) l

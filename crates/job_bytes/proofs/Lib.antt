@@ -1,4 +1,3 @@
 mod Reading
-mod TwosComplement
 pub mod Entries
 pub mod Determined

@@ -4,7 +4,8 @@ use mathlib.Core.Path.{_≡_}
 use mathlib.Core.List.{List}
 use lib.ListN.{length, take}
 use lib.IntN.{ℤ}
-use Rattle.job_bytes.specs.Numbers.{byteAt, littleEndian, signed64, entries}
+use Rattle.numbers.specs.Signed.{signed64}
+use Rattle.job_bytes.specs.Numbers.{byteAt, littleEndian, entries}
 
 -- the trailer: the last 16 bytes
 abbrev pub trailerAt : List ℕ → ℕ

@@ -1,10 +1,8 @@
 -- Numbers in bytes, and lists given entry by entry.
-use Prim.Native.Nat.{ℕ, zero, suc, _+_, _*_, _-_, _^_, _<_}
-use mathlib.Core.Bool.{cond}
-use mathlib.Core.List.{List, [], _∷_, _++_}
+use Prim.Native.Nat.{ℕ, zero, suc, pred, _+_, _*_, _<_}
+use mathlib.Core.List.{List}
 use lib.ListN.{getD}
-use lib.IntN.{ℤ, pos, negsuc}
-use lib.Dec.{ltb}
+use Rattle.game.specs.Sum.{list}
 
 -- the byte at a place
 abbrev pub byteAt : List ℕ → ℕ → ℕ
@@ -15,14 +13,9 @@ unfoldable pub littleEndian : List ℕ → ℕ → ℕ → ℕ
 littleEndian bytes at zero = 0
 littleEndian bytes at (suc width) = byteAt bytes at + 256 * littleEndian bytes (at + 1) width
 
--- the number with these 64 bits in two's complement
-unfoldable pub signed64 : ℕ → ℤ
-signed64 bits = cond (ltb bits (2 ^ 63)) (pos bits) (negsuc (2 ^ 64 - 1 - bits))
-
 -- the list f 0, f 1, .., f (n - 1)
 unfoldable pub entries : {A : Type 0} → ℕ → (ℕ → A) → List A
-entries zero f = []
-entries (suc n) f = entries n f ++ (f n ∷ [])
+entries n f = list n (λ i. f (pred i))
 
 -- each entry is a byte
 abbrev pub Bytes : List ℕ → Type 0

@@ -1,8 +1,8 @@
-// Little-endian numbers, and signed ones by their bits.
+// Little-endian numbers.
 ghost use mathlib.Core.Path.{_≡_};
 ghost use Prim.Native.Nat.{_+_, _^_, _<_, _≤_};
 ghost use lib.ListN.{length};
-ghost use Rattle.job_bytes.specs.Numbers.{littleEndian, signed64};
+ghost use Rattle.job_bytes.specs.Numbers.{littleEndian};
 
 fn wide(byte: u8) -> u64
     ensures { λ r. ⌜ r ≡ byte ⌝ }
@@ -25,17 +25,4 @@ pub fn number_at(bytes: &[u8], at: usize, width: usize) -> u64
         n = n * 256 + wide(bytes[at + i]);
     }
     n
-}
-
-const MOST_POSITIVE: u64 = i64::MAX as u64;
-
-// The number with these bits in two's complement. A negative one goes by -1 less its magnitude, which fits.
-pub fn signed(bits: u64) -> i64
-    ensures { λ r. ⌜ r ≡ signed64 bits ⌝ }
-{
-    if bits <= MOST_POSITIVE {
-        bits as i64
-    } else {
-        -1 - ((u64::MAX - bits) as i64)
-    }
 }

@@ -1,6 +1,5 @@
 // The rows of a job, read into the front of a list; its other entries stay.
 use crate::number::number_at;
-use crate::number::signed;
 ghost use mathlib.Core.Path.{_≡_};
 ghost use mathlib.Core.List.{_++_};
 ghost use Prim.Native.Nat.{_+_, _*_, _≤_};
@@ -55,7 +54,7 @@ pub fn read_proposals(bytes: &[u8], offset: usize, members: usize, out: &mut [i6
 {
     let mut j = 0;
     while j < members {
-        out[j] = signed(number_at(bytes, offset + 16 * j + 8, 8));
+        out[j] = numbers::of_bits(number_at(bytes, offset + 16 * j + 8, 8));
         j += 1;
     }
 }

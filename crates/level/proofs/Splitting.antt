@@ -13,9 +13,22 @@ use Rattle.game.proofs.LevelRule.{lower}
 use Rattle.game.proofs.LevelList.{view, Stands, next-arc, stands-start}
 use Rattle.game.proofs.LevelRoom.{enough-left}
 use Rattle.answers.specs.Checks.{mostShare}
-use Rattle.answers.specs.Level.{shortArc}
+use Rattle.answers.specs.Level.{Capped, shortArc}
 use Rattle.answers.proofs.Accepted.{Accepted}
+use Rattle.answers.proofs.Limits.{members-bound}
 use Rattle.answers.proofs.ShortArc.{none-short}
+use Rattle.users.specs.Users.{LaidOut}
+
+-- what the loop works on: an accepted tree, caps that are enough, and its members laid out
+pub record Ready (parents costs caps starts counts order : List ℕ) : Type 0 where
+  pub accepted : Accepted (treeOf parents costs)
+  pub capped : Capped (memberCount (network (treeOf parents []))) caps
+  pub enough : shortArc (network (treeOf parents costs)) caps (length parents) ≡ 0
+  pub laid : LaidOut (network (treeOf parents [])) starts counts order
+
+module _ {parents costs caps starts counts order : List ℕ} (ready : Ready parents costs caps starts counts order) where
+  pub few : memberCount (network (treeOf parents [])) ≤ 1023
+  few = members-bound (treeOf parents costs) (ready .accepted)
 
 -- costs do not decide who takes a unit
 units-costs : (parents costs caps l : List ℕ) (k t : ℕ) → units (network (treeOf parents [])) caps k t l ≡ units (network (treeOf parents costs)) caps k t l

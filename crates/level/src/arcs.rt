@@ -2,12 +2,66 @@
 ghost use mathlib.Core.Path.{_≡_};
 ghost use mathlib.Core.List.{[]};
 ghost use lib.ListN.{length};
-ghost use Rattle.game.specs.Network.{members};
+ghost use Rattle.game.specs.Network.{memberCount, members};
 ghost use Rattle.game.specs.Tree.{treeOf, network, ofArc};
 ghost use Rattle.game.specs.Level.{level};
 ghost use Rattle.answers.specs.Answer.{accepted};
 ghost use Rattle.answers.specs.Checks.{treeCheck};
 ghost use Rattle.answers.specs.Level.{Capped, shortArc};
+ghost use Rattle.users.specs.Users.{LaidOut};
+
+// Over the members laid out so that the users of each arc stand side by side.
+fn give_out(
+    parents: &[u16],
+    costs: &[u32],
+    caps: &[u64],
+    starts: &[u64],
+    counts: &[u64],
+    order: &[u16],
+    shares: &mut [u64],
+)
+    requires { ⌜ treeCheck (treeOf (now parents) (now costs)) ≡ accepted ⌝ }
+    requires { ⌜ Capped (memberCount (network (treeOf (now parents) []))) (now caps) ⌝ }
+    requires { ⌜ length (now shares) ≡ memberCount (network (treeOf (now parents) [])) ⌝ }
+    requires { ⌜ shortArc (network (treeOf (now parents) (now costs))) (now caps) (length (now parents)) ≡ 0 ⌝ }
+    requires { ⌜ LaidOut (network (treeOf (now parents) [])) (now starts) (now counts) (now order) ⌝ }
+    ensures { λ _. ⌜ now (shares .exit) ≡ level (network (treeOf (now (parents .entry)) (now (costs .entry)))) (now (caps .entry)) (ofArc (now (costs .entry))) ⌝ }
+{
+    tree::write_all(shares, 0);
+    let mut k = parents.len();
+    while 0 < k {
+        let from = starts[k - 1] as usize;
+        let to = from + counts[k - 1] as usize;
+        fill::split_arc(&order[from..to], caps, shares, costs[k - 1] as u64);
+        k -= 1;
+    }
+}
+
+// The three lists are room for the layout.
+fn split_laid_out(
+    parents: &[u16],
+    costs: &[u32],
+    vertices: &[u16],
+    caps: &[u64],
+    starts: &mut [u64],
+    counts: &mut [u64],
+    order: &mut [u16],
+    shares: &mut [u64],
+)
+    requires { ⌜ treeCheck (treeOf (now parents) (now costs)) ≡ accepted ⌝ }
+    requires { ⌜ now vertices ≡ members (network (treeOf (now parents) [])) ⌝ }
+    requires { ⌜ Capped (length (now vertices)) (now caps) ⌝ }
+    requires { ⌜ length (now shares) ≡ length (now vertices) ⌝ }
+    requires { ⌜ shortArc (network (treeOf (now parents) (now costs))) (now caps) (length (now parents)) ≡ 0 ⌝ }
+    requires { ⌜ length (now starts) ≡ length (now parents) ⌝ }
+    requires { ⌜ length (now counts) ≡ length (now parents) ⌝ }
+    requires { ⌜ length (now order) ≡ length (now vertices) ⌝ }
+    ensures { λ _. ⌜ now (shares .exit) ≡ level (network (treeOf (now (parents .entry)) (now (costs .entry)))) (now (caps .entry)) (ofArc (now (costs .entry))) ⌝ }
+{
+    tree::write_user_counts(parents, vertices, shares, counts);
+    users::lay_out(parents, vertices, counts, starts, order);
+    give_out(parents, costs, caps, starts, counts, order, shares);
+}
 
 pub fn split_arcs(
     parents: &[u16],
@@ -23,10 +77,19 @@ pub fn split_arcs(
     requires { ⌜ shortArc (network (treeOf (now parents) (now costs))) (now caps) (length (now parents)) ≡ 0 ⌝ }
     ensures { λ _. ⌜ now (shares .exit) ≡ level (network (treeOf (now (parents .entry)) (now (costs .entry)))) (now (caps .entry)) (ofArc (now (costs .entry))) ⌝ }
 {
-    tree::clear(shares);
-    let mut k = parents.len();
-    while 0 < k {
-        fill::split_arc(parents, vertices, caps, shares, k, costs[k - 1] as u64);
-        k -= 1;
-    }
+    let m = parents.len();
+    let n = vertices.len();
+    let mut starts = [0u64; 1023];
+    let mut counts = [0u64; 1023];
+    let mut order = [0u16; 1023];
+    split_laid_out(
+        parents,
+        costs,
+        vertices,
+        caps,
+        &mut starts[0..m],
+        &mut counts[0..m],
+        &mut order[0..n],
+        shares,
+    );
 }

@@ -1,4 +1,9 @@
-// Small choices between numbers, so that the loops that use them have no branch.
+// Small choices between numbers, so that the loops that use them have no branch, and signed numbers by their parts and bits.
+mod signed;
+
+pub use signed::minus;
+pub use signed::of_bits;
+pub use signed::plus;
 ghost use mathlib.Core.Path.{_≡_};
 ghost use Prim.Native.Nat.{_-_, _≤_};
 ghost use lib.Dec.{ltb};

@@ -1,24 +1,16 @@
--- A signed number as the code reads it: its sign, its parts, its range, and a difference.
+-- A signed number as the code reads it: its range, and a difference.
 use Prim.Native.Nat.{ℕ, zero, suc, pred, _^_, _<_}
 use mathlib.Core.Path.{_≡_, refl, ap}
-use mathlib.Core.Bool.{true, false, false≢true, true≢false}
+use mathlib.Core.Bool.{true, false, false≢true}
 use native.Mathlib.Decide.{decLt}
 use native.Mathlib.Omega.{arith}
 use borrow.Author.Tests.{ltb-true, ltb-false, lt-ltb, le-ltb}
 use lib.IntN.{ℤ, pos, negsuc, negℤ, _-ℤ_, subℕ}
 use lib.Signed.{mag, ltZ}
 use mir.Syntax.{w64}
-use mir.Val.{SFits, toZ, ofZ}
-use mir.Facts.{toZ-ofZ, toZ-pos}
+use mir.Val.{SFits, toZ}
+use mir.Facts.{toZ-pos}
 use Rattle.answers.specs.Checks.{mostShare, outsideShare}
-
-below-zero : (z : ℤ) → ltZ z (pos 0) ≡ true → z ≡ negsuc (mag z)
-below-zero (pos a) e = absurd (omega (arith, ltb-true a 0 e))
-below-zero (negsuc a) e = refl
-
-from-zero : (z : ℤ) → ltZ z (pos 0) ≡ false → z ≡ pos (mag z)
-from-zero (pos a) e = refl
-from-zero (negsuc a) e = absurd (true≢false e)
 
 pub low-outside : (z : ℤ) → ltZ z (negℤ (pos mostShare)) ≡ true → outsideShare z ≡ true
 low-outside (pos a) e = absurd (false≢true e)
@@ -31,21 +23,6 @@ high-outside (negsuc a) e = absurd (false≢true e)
 pub neither-outside : (z : ℤ) → ltZ z (negℤ (pos mostShare)) ≡ false → ltZ (pos mostShare) z ≡ false → outsideShare z ≡ false
 neither-outside (pos a) low high = high
 neither-outside (negsuc a) low high = le-ltb mostShare (suc a) (omega (arith, ltb-false (pred mostShare) a low))
-
-one-less : (m : ℕ) → subℕ (suc m) 1 ≡ pos m
-one-less m = rw (le-ltb (suc m) 1 (omega arith)) (ap pos (omega arith))
-
--- x is an i64, and the code sees it by its bits
-module _ {x : ℤ} (fits : SFits w64 x) where
-  pub negative : ltZ (toZ w64 (ofZ w64 x)) (pos 0) ≡ true → x ≡ negsuc (mag x)
-  negative e = below-zero x (rw (toZ-ofZ fits) at e)
-
-  pub other : ltZ (toZ w64 (ofZ w64 x)) (pos 0) ≡ false → x ≡ pos (mag x)
-  other e = from-zero x (rw (toZ-ofZ fits) at e)
-
-  -- the negation less 1
-  pub turned : ltZ (toZ w64 (ofZ w64 x)) (pos 0) ≡ true → negsuc 0 -ℤ toZ w64 (ofZ w64 x) ≡ pos (mag x)
-  turned e = rw (toZ-ofZ fits, negative e) (one-less (mag x))
 
 pos-less : (a b : ℕ) → pos a -ℤ pos b ≡ subℕ a b
 pos-less a zero = rw (le-ltb a 0 (omega arith)) (ap pos (omega arith))

@@ -1,4 +1,4 @@
-// The check of a proposal, a share's positive and negative part, and the sums of these.
+// The check of a proposal, and the sums of its shares' positive and negative parts.
 mod check;
 
 pub use check::check_proposal;
@@ -6,24 +6,9 @@ ghost use Prim.Native.Nat.{_≤_};
 ghost use mathlib.Core.Path.{_≡_};
 ghost use lib.ListN.{length};
 ghost use lib.IntN.{subℕ};
-ghost use Rattle.game.specs.Proposal.{plus as plusOf, minus as minusOf};
 ghost use Rattle.answers.specs.Answer.{accepted};
 ghost use Rattle.answers.specs.Checks.{proposalCheck};
 ghost use Rattle.proposal.specs.Parts.{Summed};
-
-// x where it is positive, else 0.
-pub fn plus(x: i64) -> u64
-    ensures { λ r. ⌜ r ≡ plusOf x ⌝ }
-{
-    if x < 0 { 0 } else { x as u64 }
-}
-
-// -x where x is negative, else 0. The least x has no negation that fits: it goes by -1 - x.
-pub fn minus(x: i64) -> u64
-    ensures { λ r. ⌜ r ≡ minusOf x ⌝ }
-{
-    if x < 0 { (-1 - x) as u64 + 1 } else { 0 }
-}
 
 // a less b.
 pub fn less(a: u64, b: u64) -> i64
@@ -49,8 +34,8 @@ pub fn parts_of(proposal: &[i64]) -> Parts
     let mut below: u64 = 0;
     let mut i = 0;
     while i < proposal.len() {
-        above += plus(proposal[i]);
-        below += minus(proposal[i]);
+        above += numbers::plus(proposal[i]);
+        below += numbers::minus(proposal[i]);
         i += 1;
     }
     Parts {

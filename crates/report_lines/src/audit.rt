@@ -4,19 +4,20 @@ use engine::AuditFound;
 use engine::Audited;
 ghost use mathlib.Core.Bool.{cond};
 ghost use mathlib.Core.List.{[]};
-ghost use Prim.Native.Nat.{_+_, _*_, _≤_};
+ghost use Prim.Native.Nat.{_+_, _*_, _%_, _≤_};
 ghost use lib.ListN.{length};
+ghost use Rattle.game.specs.Group.{digit};
 ghost use Rattle.engine.specs.Outcomes.{auditOf};
 ghost use Rattle.text.specs.Put.{Put};
 ghost use Rattle.report_lines.specs.Lines.{labelled, groupText, objectionLine, totalLine, auditLine};
 
-// A space and the number where the member is in the group.
-fn put_if(out: &mut [u8], at: usize, j: usize, on: bool) -> usize
+// A space and the number where the member's bit in its word is set.
+fn put_if(out: &mut [u8], at: usize, word: u64, j: usize) -> usize
     requires { ⌜ at + 21 ≤ length (now out) ⌝ }
-    ensures { λ r. ⌜ Put (now (out .entry)) at (cond on (labelled " " j) []) (now (out .exit)) r ⌝ }
+    ensures { λ r. ⌜ Put (now (out .entry)) at (cond (digit word (j % 64)) (labelled " " j) []) (now (out .exit)) r ⌝ }
     ensures { λ r. ⌜ r ≤ at + 21 ⌝ }
 {
-    if on {
+    if word >> (j % 64) & 1 == 1 {
         text::put_labelled(out, at, b" ", j as u64)
     } else {
         at
@@ -25,6 +26,7 @@ fn put_if(out: &mut [u8], at: usize, j: usize, on: bool) -> usize
 
 // The group's members below a number.
 fn put_group(out: &mut [u8], at: usize, words: [u64; 16], members: usize) -> usize
+    requires { ⌜ members ≤ 1024 ⌝ }
     requires { ⌜ at + 21 * members ≤ length (now out) ⌝ }
     ensures { λ r. ⌜ Put (now (out .entry)) at (groupText words members) (now (out .exit)) r ⌝ }
     ensures { λ r. ⌜ r ≤ at + 21 * members ⌝ }
@@ -32,7 +34,7 @@ fn put_group(out: &mut [u8], at: usize, words: [u64; 16], members: usize) -> usi
     let mut next = at;
     let mut j = 0;
     while j < members {
-        next = put_if(out, next, j, bits::has(words, j));
+        next = put_if(out, next, words[j / 64], j);
         j += 1;
     }
     next

@@ -24,13 +24,13 @@ module _ (t : Tree) (proposed : List ℤ) {a b c : List ℕ} {at e f n : ℕ} (n
 
   -- the lists before the splits are all 0
   pub split-joined : (caps : List ℕ) {level : LevelAnswer} {vertices by-arc shares by-arc₀ shares₀ : List ℕ} → by-arc₀ ≡ blank t → shares₀ ≡ blank t
+      → Put a at (levelLine level) b e
+      → Put b e (memberLines level vertices proposed by-arc shares n) c f
       → vertices ≡ members (network t)
       → by-arc ≡ byArcList t by-arc₀
       → level ≡ levelAnswer t caps shares₀
       → shares ≡ levelList t caps shares₀
-      → Put a at (levelLine level) b e
-      → Put b e (memberLines level vertices proposed by-arc shares n) c f
       → Put a at (splitText t caps proposed) c f
   unfolding splitText
-  split-joined caps by-arc₀-is shares₀-is vertices-is by-arc-is level-is shares-is p q =
+  split-joined caps by-arc₀-is shares₀-is p q vertices-is by-arc-is level-is shares-is =
       put-then (rw (level-is, shares₀-is) at p) (rw (level-is, vertices-is, by-arc-is, shares-is, n-is, by-arc₀-is, shares₀-is) at q)

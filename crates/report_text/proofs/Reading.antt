@@ -1,37 +1,62 @@
 -- The lists after a job was read, and the report that they make.
-use Prim.Native.Nat.{ℕ, _-_}
+use Prim.Native.Nat.{ℕ, pred, _-_, _≤_}
 use mathlib.Core.Path.{_≡_, refl, sym, ap, _∙_}
-use mathlib.Core.List.{List}
+use mathlib.Core.List.{List, _++_}
 use native.Mathlib.Omega.{arith}
-use lib.ListN.{length, take, drop}
-use Rattle.game.specs.Tree.{treeOf}
-use Rattle.answers.specs.Answer.{Check, accepted, refused, refusal, answer}
-use Rattle.answers.proofs.Accepted.{answered}
-use Rattle.job_bytes.specs.Format.{arcOffset, memberOffset, jobArcs, jobMembers, parentAt, costAt, capAt, proposalAt, jobParents, jobCosts, jobCaps, jobProposals}
-use Rattle.job_bytes.proofs.Entries.{front-taken}
+use native.Mathlib.Nat.{sub-zero}
+use lib.ListN.{length, take, length-append}
+use lib.Seq.{take-at, length-take-le}
+use Rattle.game.specs.Network.{memberCount}
+use Rattle.game.proofs.Lists.{list-length}
+use Rattle.game.specs.Tree.{treeOf, network}
+use Rattle.answers.specs.Answer.{Check, accepted, refused, Answer, value, refusal, answer, written}
+use Rattle.answers.specs.Checks.{treeCheck}
+use Rattle.job_bytes.specs.Numbers.{entries}
+use Rattle.job_bytes.specs.Format.{jobParents, jobCosts, jobCaps, jobProposals}
 use Rattle.job.specs.JobCheck.{jobCheck}
-use Rattle.job.specs.Reader.{Lent, JobValue, readCheck, jobValue, jobAnswer, jobLists, jobReadOf}
-use Rattle.job.proofs.Laws.{filled}
-use Rattle.job.specs.declared.JobRead.{JobRead}
-use Rattle.job.specs.declared.JobRead.the-variants.{Read, Refused}
-use Rattle.checks.specs.declared.Refusal.{Refusal}
+use Rattle.job.specs.Reader.{Lent, JobValue, readCheck, jobValue, jobAnswer, jobLists}
+use Rattle.job.specs.Laws.{Usable}
+use Rattle.job.proofs.Laws.{read-usable}
 use Rattle.report_lines.specs.Lines.{refusedLine}
 use Rattle.report_text.specs.Report.{jobText, reportText}
 
--- an answer that is a refusal: what the check finds
-turned-away : {A : Type 0} (check : Check) (x : A) {number place : ℕ} → answer check x ≡ refusal number place → check ≡ refused number place
-turned-away accepted x e = let z : _≡_ {A = ℕ} 0 1 = cc in absurd (omega arith)
-turned-away (refused number place) x e = cc
+-- the check that an answer tells of, and an answer's value
+module _ {A : Type 0} where
+  abbrev told : Answer A → Check
+  told (value x) = accepted
+  told (refusal number place) = refused number place
 
--- the fronts of the lists hold the values of an accepted job
-pub record Fronts (bytes : List ℕ) (arcs members : ℕ) (l : Lent) : Type 0 where
+  told-check : (check : Check) (x : A) → told (answer check x) ≡ check
+  told-check accepted x = refl
+  told-check (refused number place) x = refl
+
+  same-value : {x v : A} → value x ≡ value v → x ≡ v
+  same-value e = cc
+
+-- the first n entries of a list are these values
+pub record Front {A : Type 0} (n : ℕ) (values list : List A) : Type 0 where
+  pub room : n ≤ length list
+  pub taken : take (n - 0) list ≡ values
+
+module _ {A : Type 0} where
+  front : (n : ℕ) (f : ℕ → A) (before rest : List A) {check : Check} {list : List A} → check ≡ accepted → list ≡ written check before (entries n f ++ rest)
+      → Front n (entries n f) list
+  unfolding entries
+  front n f before rest accept e =
+      rw (e, accept)
+      (record {
+        room = omega (arith, length-append (entries n f) rest, list-length (λ i. f (pred i)) (f 0) n);
+        taken = rw sub-zero (take-at (entries n f) rest n (list-length (λ i. f (pred i)) (f 0) n));
+      })
+
+-- the fronts of the lists hold the values of an accepted job, and the engine's checks find nothing in them
+pub record Fronts (bytes : List ℕ) (v : JobValue) (l : Lent) : Type 0 where
   pub check : jobCheck bytes ≡ accepted
-  pub arcs-is : arcs ≡ jobArcs bytes
-  pub members-is : members ≡ jobMembers bytes
-  pub parents : take (arcs - 0) (l .parents) ≡ jobParents bytes
-  pub costs : take (arcs - 0) (l .costs) ≡ jobCosts bytes
-  pub caps : take (members - 0) (l .caps) ≡ jobCaps bytes
-  pub proposals : take (members - 0) (l .proposals) ≡ jobProposals bytes
+  pub parents : Front (v .arcs) (jobParents bytes) (l .parents)
+  pub costs : Front (v .arcs) (jobCosts bytes) (l .costs)
+  pub caps : Front (v .members) (jobCaps bytes) (l .caps)
+  pub proposals : Front (v .members) (jobProposals bytes) (l .proposals)
+  pub usable : Usable v l
 
 -- each list has room for the largest tree
 pub record Roomy (l : Lent) : Type 0 where
@@ -45,28 +70,40 @@ module _ (bytes : List ℕ) (l : Lent) (room : Roomy l) where
   unfolding readCheck
   checked = rw (room .parents, room .costs, room .caps, room .proposals)
 
-  module _ {read : JobRead} (is : jobReadOf read ≡ jobAnswer bytes l) where
-    pub fronts : {arcs members note : ℕ} {after : Lent} → read ≡ Read arcs members note → after ≡ jobLists bytes l → Fronts bytes arcs members after
-    unfolding jobAnswer
-    fronts {arcs} {members} {note} e lists =
-        let value-is = answered (jobCheck bytes) (jobValue bytes) (record { arcs = arcs; members = members; note = note }) (sym (rw (checked, e) at is)) in
-        rw (ap (λ (v : JobValue). v .arcs) (value-is .1), ap (λ (v : JobValue). v .members) (value-is .1), lists ∙ filled bytes l (checked ∙ value-is .0))
-        (record {
-          check = value-is .0;
-          arcs-is = refl;
-          members-is = refl;
-          parents = front-taken (jobArcs bytes) (parentAt bytes (arcOffset bytes)) (drop (jobArcs bytes) (l .parents)) refl;
-          costs = front-taken (jobArcs bytes) (costAt bytes (arcOffset bytes)) (drop (jobArcs bytes) (l .costs)) refl;
-          caps = front-taken (jobMembers bytes) (capAt bytes (memberOffset bytes)) (drop (jobMembers bytes) (l .caps)) refl;
-          proposals = front-taken (jobMembers bytes) (proposalAt bytes (memberOffset bytes)) (drop (jobMembers bytes) (l .proposals)) refl;
-        })
+  answer-check : {a : Answer JobValue} → a ≡ jobAnswer bytes l → readCheck bytes l ≡ told a
+  unfolding jobAnswer
+  answer-check is = sym (ap told is ∙ told-check (readCheck bytes l) (jobValue bytes))
 
-    pub refused-report : {r : Refusal} → read ≡ Refused r → reportText bytes ≡ refusedLine (r .number) (r .place)
-    unfolding jobAnswer reportText
-    refused-report e = rw (turned-away (jobCheck bytes) (jobValue bytes) (sym (rw (checked, e) at is)))
+  pub fronts : {v : JobValue} {after : Lent} → value v ≡ jobAnswer bytes l → after ≡ jobLists bytes l → Fronts bytes v after
+  unfolding jobAnswer jobLists
+  fronts {v} is lists =
+      let accept : readCheck bytes l ≡ accepted = answer-check is in
+      let v-is : v ≡ jobValue bytes = same-value (rw accept at is) in
+      record {
+        check = sym checked ∙ accept;
+        parents = rw v-is (front _ _ _ _ accept (ap (λ (l : Lent). l .parents) lists));
+        costs = rw v-is (front _ _ _ _ accept (ap (λ (l : Lent). l .costs) lists));
+        caps = rw v-is (front _ _ _ _ accept (ap (λ (l : Lent). l .caps) lists));
+        proposals = rw v-is (front _ _ _ _ accept (ap (λ (l : Lent). l .proposals) lists));
+        usable = rw lists (read-usable bytes l v (sym is));
+      }
 
-pub front-report : {bytes : List ℕ} {arcs members : ℕ} {l : Lent} → Fronts bytes arcs members l
-    → jobText (treeOf (take (arcs - 0) (l .parents)) (take (arcs - 0) (l .costs))) (take (members - 0) (l .caps)) (take (members - 0) (l .proposals))
-    ≡ reportText bytes
-unfolding reportText
-front-report f = rw (f .parents, f .costs, f .caps, f .proposals, f .check)
+  pub refused-report : {number place : ℕ} → refusal number place ≡ jobAnswer bytes l → reportText bytes ≡ refusedLine number place
+  unfolding reportText
+  refused-report is = rw (← checked, answer-check is)
+
+-- the parts of the lists that the code hands on
+module _ {bytes : List ℕ} {v : JobValue} {l : Lent} (f : Fronts bytes v l) where
+  pub front-tree : treeCheck (treeOf (take (v .arcs - 0) (l .parents)) (take (v .arcs - 0) (l .costs))) ≡ accepted
+  front-tree = rw (sub-zero (v .arcs)) (f .usable .tree)
+
+  pub front-members :
+      length (take (v .members - 0) (l .proposals)) ≡ memberCount (network (treeOf (take (v .arcs - 0) (l .parents)) (take (v .arcs - 0) (l .costs))))
+  front-members =
+      rw (sub-zero (v .arcs), sub-zero (v .members)) (length-take-le (v .members) (l .proposals) (f .proposals .room) ∙ sym (f .usable .members))
+
+  pub front-report :
+      jobText (treeOf (take (v .arcs - 0) (l .parents)) (take (v .arcs - 0) (l .costs))) (take (v .members - 0) (l .caps)) (take (v .members - 0) (l .proposals))
+      ≡ reportText bytes
+  unfolding reportText
+  front-report = rw (f .parents .taken, f .costs .taken, f .caps .taken, f .proposals .taken, f .check)

@@ -11,7 +11,8 @@ use Rattle.answers.specs.Checks.{arcsCheck, treeCheck, rangeCheck}
 use Rattle.answers.specs.Audit.{verdict, auditAnswer, auditWords}
 use Rattle.answers.specs.Level.{shortArc, levelAnswer, levelList}
 use Rattle.answers.specs.ByArc.{byArcList}
-use Rattle.job_bytes.specs.Numbers.{littleEndian, signed64, entries}
+use Rattle.job_bytes.specs.Numbers.{littleEndian, entries}
+use Rattle.numbers.specs.Signed.{signed64}
 use Rattle.job_bytes.specs.Format.{arcOffset, memberOffset, jobArcs, jobMembers, version}
 use Rattle.job_form.specs.Form.{formCheck, fillersFrom}
 use Rattle.job.specs.JobCheck.{sharesCheck, valuesCheck, jobCheck}

@@ -4,7 +4,7 @@ use report_lines::put_level;
 use report_lines::put_members;
 use report_lines::put_needs;
 ghost use mathlib.Core.Path.{_≡_};
-ghost use Prim.Native.Nat.{_+_, _≤_};
+ghost use Prim.Native.Nat.{_+_, _*_, _≤_};
 ghost use lib.ListN.{length};
 ghost use Rattle.game.specs.Network.{wholeCost, memberCount};
 ghost use Rattle.game.specs.Tree.{treeOf, network};
@@ -29,6 +29,8 @@ fn put_cost(parents: &[u16], costs: &[u32], needs: &mut [u64], out: &mut [u8], a
 fn put_tree(parents: &[u16], costs: &[u32], proposed: &[i64], out: &mut [u8], at: usize) -> usize
     requires { ⌜ treeCheck (treeOf (now parents) (now costs)) ≡ accepted ⌝ }
     requires { ⌜ length (now proposed) ≡ memberCount (network (treeOf (now parents) (now costs))) ⌝ }
+    requires { ⌜ length (now parents) ≤ 1023 ⌝ }
+    requires { ⌜ length (now proposed) ≤ 1023 ⌝ }
     requires { ⌜ at + 22100 ≤ length (now out) ⌝ }
     ensures { λ r. ⌜ Put (now (out .entry)) at (treeText (treeOf (now (parents .entry)) (now (costs .entry))) (now (proposed .entry))) (now (out .exit)) r ⌝ }
     ensures { λ r. ⌜ r ≤ at + 22100 ⌝ }
@@ -61,7 +63,7 @@ fn put_splits(
     requires { ⌜ now vertices ≡ blank (treeOf (now parents) (now costs)) ⌝ }
     requires { ⌜ now «by_arc» ≡ blank (treeOf (now parents) (now costs)) ⌝ }
     requires { ⌜ now shares ≡ blank (treeOf (now parents) (now costs)) ⌝ }
-    requires { ⌜ at + 160000 ≤ length (now out) ⌝ }
+    requires { ⌜ at + 100 + 150 * length (now proposed) ≤ length (now out) ⌝ }
     ensures { λ r. ⌜ Put (now (out .entry)) at (splitText (treeOf (now (parents .entry)) (now (costs .entry))) (now (caps .entry)) (now (proposed .entry))) (now (out .exit)) r ⌝ }
 {
     engine::list_members(parents, costs, vertices);
@@ -71,6 +73,7 @@ fn put_splits(
     put_members(out, next, level, vertices, proposed, by_arc, shares)
 }
 
+// The lists are those of a job that was read, with at most 1,023 entries each.
 pub fn put_job(
     parents: &[u16],
     costs: &[u32],
@@ -80,6 +83,8 @@ pub fn put_job(
 ) -> usize
     requires { ⌜ treeCheck (treeOf (now parents) (now costs)) ≡ accepted ⌝ }
     requires { ⌜ length (now proposed) ≡ memberCount (network (treeOf (now parents) (now costs))) ⌝ }
+    requires { ⌜ length (now parents) ≤ 1023 ⌝ }
+    requires { ⌜ length (now proposed) ≤ 1023 ⌝ }
     requires { ⌜ 190000 ≤ length (now out) ⌝ }
     ensures { λ r. ⌜ Put (now (out .entry)) 0 (jobText (treeOf (now (parents .entry)) (now (costs .entry))) (now (caps .entry)) (now (proposed .entry))) (now (out .exit)) r ⌝ }
 {

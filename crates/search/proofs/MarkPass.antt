@@ -143,9 +143,9 @@ module _ (ps excesses : List ℕ) where
           (λ (e : getD inner (suc i) false ≡ false). kept u (λ d. omega (arith, is-w, pick-yes 1 (ap not e))) ∙ s .none-beyond u (omega arith))
           (both (getD inner (suc i) false))
 
-      pub marking-on : (words ≡ wordsOf (bit words) → words′ ≡ wordsOf (bit words′)) → Marking (set active (suc i) on) words′ (j + w) (suc i)
+      pub marking-on : words′ ≡ wordsOf (bit words′) → Marking (set active (suc i) on) words′ (j + w) (suc i)
       unfolding after
-      marking-on stays =
+      marking-on encodes =
           record {
             places = length-set active (suc i) on ∙ s .places;
             source = earlier 0 (omega arith) ∙ s .source;
@@ -153,5 +153,5 @@ module _ (ps excesses : List ℕ) where
             numbered = ap₂ (λ (a b : ℕ). a + b) (s .numbered) (is-w ∙ ap (λ (b : Bool). pick (not b) 1) known);
             marks = marks-on;
             none-beyond = none-on;
-            encoded = stays (s .encoded);
+            encoded = encodes;
           }

@@ -26,7 +26,7 @@ fn share_here(has_child: bool, proposal: &[i64], j: usize) -> u64
     if has_child {
         return 0;
     }
-    proposal::plus(proposal[j])
+    numbers::plus(proposal[j])
 }
 
 pub fn find_excesses(parents: &[u16], costs: &[u32], proposal: &[i64]) -> Excesses

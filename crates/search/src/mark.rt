@@ -32,8 +32,7 @@ pub fn mark(parents: &[u16], of: [u64; 1024], inner: [bool; 1024]) -> [u64; 16]
     while i < parents.len() {
         let on = active_here(of[i + 1], active[parents[i] as usize]);
         active[i + 1] = on;
-        let more = bits::with(words, j, chosen(on, inner[i + 1]));
-        words = more;
+        bits::put(&mut words, j, chosen(on, inner[i + 1]));
         j += tree::one_if_member(inner[i + 1]);
         i += 1;
     }

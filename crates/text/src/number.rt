@@ -33,9 +33,9 @@ pub fn put_signed(out: &mut [u8], at: usize, n: i64) -> usize
     ensures { λ r. ⌜ Put (now (out .entry)) at (signedDecimal n) (now (out .exit)) r ⌝ }
     ensures { λ r. ⌜ r ≤ at + 21 ⌝ }
 {
-    let below = proposal::minus(n);
+    let below = numbers::minus(n);
     if below == 0 {
-        put_number(out, at, proposal::plus(n))
+        put_number(out, at, numbers::plus(n))
     } else {
         put_labelled(out, at, b"-", below)
     }

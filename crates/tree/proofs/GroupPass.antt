@@ -13,11 +13,11 @@ use Rattle.game.specs.Network.{used, groupCost, wholeCost, number, memberCount}
 use Rattle.game.specs.Tree.{Tree, network, ofArc, hasChild}
 use Rattle.game.specs.Group.{bit, byNumber}
 use Rattle.game.proofs.Bools.{both, clash, not-so, and-first, and-true, and-false, pick-le}
-use Rattle.game.proofs.Sums.{In, some-of, some-is, sum-mono}
+use Rattle.game.proofs.Sums.{In, some-of, some-is, sum-mono, sum-bound}
 use Rattle.game.proofs.Groups.{used-children}
 use Rattle.answers.proofs.Accepted.{Accepted}
 use Rattle.tree.proofs.Carry.{flags, Carried, carried-start, carried-at, carried-on, or-none}
-use Rattle.tree.proofs.MemberPass.{Left, left-start, left-known, left-room, left-number, left-on}
+use Rattle.tree.proofs.MemberPass.{isMember, Left, left-start, left-known, left-room, left-number, left-on}
 use Rattle.answers.proofs.Limits.{whole-bound}
 use Rattle.tree.proofs.Bounds.{sound}
 
@@ -85,6 +85,10 @@ module _ (t : Tree) (words : List ℕ) (ok : Accepted t) where
 
     pub costing-room : (w : ℕ) → w ≡ pick (not (getD has k false)) 1 → w ≤ j
     costing-room = left-room (t .parents) (sound t ok) k i within next (s .members)
+
+    pub costing-few : j ≤ 1023
+    costing-few =
+        omega (arith, s .members .left, sum-bound k 1 {f = λ v. pick (isMember (t .parents) v) 1} (λ v h. pick-le (isMember (t .parents) v) 1), ok .few)
 
     pub costing-number : (w : ℕ) → w ≡ pick (not (getD has k false)) 1 → j - w ≡ number (network t) k
     costing-number = left-number (t .parents) (sound t ok) k i within next (s .members)

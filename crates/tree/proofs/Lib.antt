@@ -6,3 +6,5 @@ pub mod Filling
 pub mod CapPass
 pub mod GroupPass
 pub mod Lent
+pub mod Vertices
+pub mod UserCounts

@@ -9,13 +9,13 @@ ghost use Rattle.game.specs.Tree.{treeOf, network};
 ghost use Rattle.answers.specs.Level.{Capped, capSum};
 ghost use Rattle.tree.specs.Passes.{Sound};
 
-// Writes 0 at every place.
-pub fn clear(out: &mut [u64])
-    ensures { λ _. ⌜ now (out .exit) ≡ replicate (length (now (out .entry))) 0 ⌝ }
+// Writes a number at every place.
+pub fn write_all(out: &mut [u64], value: u64)
+    ensures { λ _. ⌜ now (out .exit) ≡ replicate (length (now (out .entry))) value ⌝ }
 {
     let mut i = 0;
     while i < out.len() {
-        out[i] = 0;
+        out[i] = value;
         i += 1;
     }
 }
@@ -28,7 +28,7 @@ pub fn write_cap_sums(parents: &[u16], vertices: &[u16], caps: &[u64], out: &mut
     requires { ⌜ length (now out) ≡ length (now parents) ⌝ }
     ensures { λ _. ⌜ now (out .exit) ≡ list (length (now (parents .entry))) (capSum (network (treeOf (now (parents .entry)) [])) (now (caps .entry))) ⌝ }
 {
-    clear(out);
+    write_all(out, 0);
     let mut j = 0;
     while j < vertices.len() {
         let place = vertices[j] as usize - 1;

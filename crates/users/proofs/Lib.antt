@@ -1,3 +1,6 @@
-pub mod Passing
-pub mod BelowPass
-pub mod UserPass
+pub mod Parts
+mod StartPass
+mod OrderPass
+pub mod UserSums
+mod Walk
+mod Laid

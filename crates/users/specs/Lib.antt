@@ -1,1 +1,2 @@
 pub mod Users
+pub mod Layout

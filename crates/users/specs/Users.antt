@@ -1,27 +1,26 @@
--- The numbers that pass a test as a list, and an arc's users so.
-use Prim.Native.Nat.{ℕ, zero, suc, _+_, _≤_}
+-- A list of an arc's users, and the members laid out so that each arc's users stand side by side.
+use Prim.Native.Nat.{ℕ, pred, _+_, _≤_}
 use mathlib.Core.Path.{_≡_}
-use mathlib.Core.Bool.{Bool, false, cond}
 use mathlib.Core.List.{List, [], _∷_}
-use lib.ListN.{length, getD}
-use Rattle.game.specs.Network.{Network, atOrBelow, memberCount}
-use Rattle.game.specs.Tree.{treeOf, network}
+use lib.ListN.{length, take, drop}
+use Rattle.game.specs.Sum.{pick, sum}
+use Rattle.game.specs.Network.{Network, memberCount}
+use Rattle.game.specs.Tree.{ofArc}
 use Rattle.game.specs.Core.{users}
-
--- those of the d numbers from q on that pass the test, in rising order
-unfoldable pub passing : (ℕ → Bool) → ℕ → ℕ → List ℕ
-passing f q zero = []
-passing f q (suc d) = cond (f q) (q ∷ passing f (suc q) d) (passing f (suc q) d)
-
--- the users of arc k, by member number
-abbrev pub usersOf : Network → ℕ → List ℕ
-usersOf n k = passing (users n k) 0 (memberCount n)
 
 -- the sum of g over a list
 unfoldable pub total : (ℕ → ℕ) → List ℕ → ℕ
 total g [] = 0
 total g (u ∷ us) = g u + total g us
 
--- the vertices at or below vertex k, by vertex
-pub record Below (parents : List ℕ) (k : ℕ) (below : List Bool) : Type 0 where
-  pub known : (v : ℕ) → v ≤ length parents → getD below v false ≡ atOrBelow (network (treeOf parents [])) k v
+-- the list has the number of each user of arc k once, in any order: a sum over it is the sum over the users
+pub record Lists (n : Network) (k : ℕ) (us : List ℕ) : Type 0 where
+  pub sums : (g : ℕ → ℕ) → total g us ≡ sum (memberCount n) (λ i. pick (users n k (pred i)) (g (pred i)))
+
+-- `order` has one entry a member, the others one entry an arc; the users of arc k are the `counts` entry of k many numbers in `order` from the `starts` entry of k on
+pub record LaidOut (n : Network) (starts counts order : List ℕ) : Type 0 where
+  pub starts-sized : length starts ≡ n .arcs
+  pub counts-sized : length counts ≡ n .arcs
+  pub order-sized : length order ≡ memberCount n
+  pub within : (k : ℕ) → 1 ≤ k → k ≤ n .arcs → ofArc starts k + ofArc counts k ≤ length order
+  pub lists : (k : ℕ) → 1 ≤ k → k ≤ n .arcs → Lists n k (take (ofArc counts k) (drop (ofArc starts k) order))

@@ -1,53 +1,64 @@
-// The users of an arc by member number, in one pass over the tree and one over the members.
+// The members in depth-first order, so that the users of every arc stand side by side in one list.
 ghost use mathlib.Core.Path.{_≡_};
 ghost use mathlib.Core.List.{[]};
-ghost use Prim.Native.Nat.{_≤_};
-ghost use lib.ListN.{length, take};
-ghost use Rattle.game.specs.Sum.{pick};
+ghost use lib.ListN.{length};
+ghost use Rattle.game.specs.Sum.{list};
 ghost use Rattle.game.specs.Network.{members};
 ghost use Rattle.game.specs.Tree.{treeOf, network};
+ghost use Rattle.game.specs.ByArc.{userCount};
 ghost use Rattle.tree.specs.Passes.{Sound};
-ghost use Rattle.users.specs.Users.{Below, usersOf};
+ghost use Rattle.users.specs.Users.{LaidOut};
+ghost use Rattle.users.specs.Layout.{Counts, Begun, Apart, Ordered};
 
-pub struct Users {
-    pub count: usize,
-    // Member numbers in rising order, `count` of them.
-    pub list: [u16; 1023],
-}
-
-// Whether each vertex is at or below vertex k.
-fn below(parents: &[u16], k: usize) -> [bool; 1024]
+// Writes for each arc where its users begin. `next` holds for each vertex where those of its next child arc do.
+fn write_starts(parents: &[u16], counts: &[u64], starts: &mut [u64])
     requires { ⌜ Sound (now parents) ⌝ }
-    requires { ⌜ k ≤ length (now parents) ⌝ }
-    ensures { λ r. ⌜ Below (now (parents .entry)) k r ⌝ }
+    requires { ⌜ Counts (length (now parents)) (now counts) ⌝ }
+    requires { ⌜ length (now starts) ≡ length (now parents) ⌝ }
+    ensures { λ _. ⌜ Begun (now (parents .entry)) (now (counts .entry)) (now (starts .exit)) ⌝ }
 {
-    let mut below = [false; 1024];
-    below[k] = true;
-    let mut i = k;
+    let mut next = [0u64; 1024];
+    let mut i = 0;
     while i < parents.len() {
-        below[i + 1] = below[parents[i] as usize];
+        let p = parents[i] as usize;
+        let start = next[p];
+        starts[i] = start;
+        next[p] = start + counts[i];
+        next[i + 1] = start;
         i += 1;
     }
-    below
 }
 
-// The users of arc k. Every member's number is written at place `count`, which grows only for a user.
-pub fn users_of(parents: &[u16], vertices: &[u16], k: usize) -> Users
-    requires { ⌜ Sound (now parents) ⌝ }
-    requires { ⌜ now vertices ≡ members (network (treeOf (now parents) [])) ⌝ }
-    requires { ⌜ k ≤ length (now parents) ⌝ }
-    ensures { λ r. ⌜ r .count ≤ length (r .list) ⌝ }
-    ensures { λ r. ⌜ take (r .count) (r .list) ≡ usersOf (network (treeOf (now (parents .entry)) [])) k ⌝ }
+// Writes each member's number where the users of its arc begin, which is itself alone.
+fn write_order(vertices: &[u16], starts: &[u64], order: &mut [u16])
+    requires { ⌜ Apart (now vertices) (now starts) ⌝ }
+    requires { ⌜ length (now order) ≡ length (now vertices) ⌝ }
+    ensures { λ _. ⌜ Ordered (now (vertices .entry)) (now (starts .entry)) (now (order .exit)) ⌝ }
 {
-    let below = below(parents, k);
-    let mut list = [0u16; 1023];
-    let mut count = 0;
     let mut j = 0;
     while j < vertices.len() {
-        let v = vertices[j] as usize;
-        list[count] = j as u16;
-        count += numbers::one_if(below[v]);
+        let arc = vertices[j] as usize - 1;
+        let place = starts[arc] as usize;
+        order[place] = j as u16;
         j += 1;
     }
-    Users { count, list }
+}
+
+// Writes the members in depth-first order and, for each arc, where its users begin in that list; `counts` holds how many they are.
+pub fn lay_out(
+    parents: &[u16],
+    vertices: &[u16],
+    counts: &[u64],
+    starts: &mut [u64],
+    order: &mut [u16],
+)
+    requires { ⌜ Sound (now parents) ⌝ }
+    requires { ⌜ now vertices ≡ members (network (treeOf (now parents) [])) ⌝ }
+    requires { ⌜ now counts ≡ list (length (now parents)) (userCount (network (treeOf (now parents) []))) ⌝ }
+    requires { ⌜ length (now starts) ≡ length (now parents) ⌝ }
+    requires { ⌜ length (now order) ≡ length (now vertices) ⌝ }
+    ensures { λ _. ⌜ LaidOut (network (treeOf (now (parents .entry)) [])) (now (starts .exit)) (now (counts .entry)) (now (order .exit)) ⌝ }
+{
+    write_starts(parents, counts, starts);
+    write_order(vertices, starts, order);
 }

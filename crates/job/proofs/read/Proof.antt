@@ -1,5 +1,6 @@
 use mathlib.Core.Path.{_≡_}
 use borrow.Author.Needs.{needs}
+use native.Mathlib.Omega.{arith}
 use lib.ListN.{length}
 use denote.Ref.{now}
 use Rattle.answers.specs.Answer.{accepted}
@@ -51,7 +52,7 @@ read-costs-requires : tie.Need-read-costs-requires
 read-costs-requires c κs = let f = room (c .before .before .before .before .before) in (f .arcs-within, f .for-costs)
 
 read-caps-requires : tie.Need-read-caps-requires
-read-caps-requires c κs = let f = room (c .before .before .before .before .before .before .before .before .before) in (f .members-within, f .for-caps)
+read-caps-requires c κs = let f = room (c .before .before .before .before .before .before .before .before .before) in (omega (arith, f .members-within), omega (arith, f .for-caps))
 
 read-proposals-requires : tie.Need-read-proposals-requires
 read-proposals-requires c κs = let f = room (c .before .before .before .before .before .before .before .before .before .before .before .before .before) in (f .members-within, f .for-proposals)

@@ -1,11 +1,10 @@
-use Prim.Native.Nat.{ℕ, _≤_}
-use mathlib.Core.Path.{_∙_}
+use Prim.Native.Nat.{_-_}
+use mathlib.Core.Path.{sym, ap, _∙_}
 use native.Mathlib.Omega.{arith}
 use denote.Ref.{now}
-use Rattle.job_bytes.proofs.Entries.{length-entries}
-use Rattle.job.specs.Reader.{Lent, lent}
-use Rattle.job.proofs.Accepted.{JobAccepted, job-accepted, few-arcs, few-members}
-use Rattle.report_text.proofs.Reading.{Roomy, Fronts, fronts, front-report, refused-report}
+use lib.ListN.{length-take}
+use Rattle.job.specs.Reader.{Lent, JobValue, lent, jobReadOf}
+use Rattle.report_text.proofs.Reading.{Roomy, Fronts, fronts, front-tree, front-members, front-report, refused-report}
 use borrow.Author.Needs.{needs}
 use Rattle.report_text.proofs.put_report.Statement.{statement}
 use Rattle.report_text.proofs.put_report.Tie as tie
@@ -20,61 +19,44 @@ abbrev called : tie.After-read2 → tie.After-read
 called c = c .before .before .before .before .before .before .before .before .before
 
 -- what was read
-abbrev arcs : (c : tie.After-read2) → ℕ
-arcs c = c .read2 .given .0 .0
-
-abbrev members : (c : tie.After-read2) → ℕ
-members c = c .read2 .given .0 .1 .0
+abbrev values : tie.After-read2 → JobValue
+values c = let told = c .read2 .given .0 in record { arcs = told .0; members = told .1 .0; note = told .1 .1 .0 }
 
 abbrev lists : (c : tie.After-read2) → Lent
 lists c = let last = called c .read .last .1 in lent (last .0) (last .1 .0) (last .1 .1 .0) (last .1 .1 .1 .0)
 
-job : (c : tie.After-read2) → Fronts (now (start c .args .bytes)) (arcs c) (members c) (lists c)
+job : (c : tie.After-read2) → Fronts (now (start c .args .bytes)) (values c) (lists c)
 job c =
     let read = called c .read .ensures in
-    fronts _ _ (roomy (start c)) (read .0) {after = lists c} (c .read2 .given .1) (read .1)
-
--- the lists keep their lengths
-long : (c : tie.After-read2) → Roomy (lists c)
-long c =
-    let kept = called c .read .kept .1 in
-    let room = roomy (start c) in
-    record {
-      parents = kept .0 ∙ room .parents;
-      costs = kept .1 .0 ∙ room .costs;
-      caps = kept .1 .1 .0 ∙ room .caps;
-      proposals = kept .1 .1 .1 .0 ∙ room .proposals;
-    }
-
-sound : (c : tie.After-read2) → JobAccepted (now (start c .args .bytes))
-sound c = job-accepted _ (job c .check)
-
-few-arcs-read : (c : tie.After-read2) → arcs c ≤ 1023
-few-arcs-read c = omega (arith, job c .arcs-is, few-arcs _ (sound c))
-
-few-members-read : (c : tie.After-read2) → members c ≤ 1023
-few-members-read c = omega (arith, job c .members-is, few-members _ (sound c))
+    fronts _ _ (roomy (start c)) {v = values c} {after = lists c} (sym (ap jobReadOf (c .read2 .given .1)) ∙ read .0) (read .1)
 
 part-put-job-end : tie.Need-part-put-job-end
-part-put-job-end c = let read = c .before .before in omega (arith, few-arcs-read read, long read .parents)
+part-put-job-end c = omega (arith, job (c .before .before) .parents .room)
 
 part-put-job-end-2 : tie.Need-part-put-job-end-2
-part-put-job-end-2 c = let read = c .before .before .before .before in omega (arith, few-arcs-read read, long read .costs)
+part-put-job-end-2 c = omega (arith, job (c .before .before .before .before) .costs .room)
 
 part-put-job-end-3 : tie.Need-part-put-job-end-3
-part-put-job-end-3 c = let read = c .before .before .before .before .before .before in omega (arith, few-members-read read, long read .caps)
+part-put-job-end-3 c = omega (arith, job (c .before .before .before .before .before .before) .caps .room)
 
 part-put-job-end-4 : tie.Need-part-put-job-end-4
-part-put-job-end-4 c = let read = c .before .before .before .before .before .before .before .before in omega (arith, few-members-read read, long read .proposals)
+part-put-job-end-4 c = omega (arith, job (c .before .before .before .before .before .before .before .before) .proposals .room)
 
 put-job-requires : tie.Need-put-job-requires
 put-job-requires c κs =
     let read = c .before .before .before .before .before .before .before .before .before .before in
-    let f = job read in (
-      rw (f .parents, f .costs) (sound read .tree),
+    let kept = called read .read .kept .1 in
+    let room = roomy (start read) in (
+      front-tree (job read),
       (
-        rw (f .proposals, f .parents) (length-entries _ _ ∙ sound read .rows),
-        omega (arith, start read .pre .1 .1 .1 .1),
+        front-members (job read),
+        (
+          omega (arith, length-take (values read .arcs - 0) (lists read .parents), kept .0, room .parents),
+          (
+            omega (arith, length-take (values read .members - 0) (lists read .proposals), kept .1 .1 .1 .0, room .proposals),
+            omega (arith, start read .pre .1 .1 .1 .1),
+          ),
+        ),
       ),
     )
 
@@ -84,7 +66,7 @@ returns c = rw (← front-report (job (c .before .before .before .before .before
 returns-2 : tie.Need-returns-2
 returns-2 c =
     let read = c .before .before .before .before .before .before .before .before .before .before .before .before .before .before .read .ensures in
-    rw (refused-report _ _ (roomy (c .before .before .before .before .before .before .before .before .before .before .before .before .before .before .before .before .before .before .before .before .before .before .before .before)) (read .0) (c .before .before .before .before .before .read3 .given .1)) (c .before .before .put-refused .ensures .0)
+    rw (refused-report _ _ (roomy (c .before .before .before .before .before .before .before .before .before .before .before .before .before .before .before .before .before .before .before .before .before .before .before .before)) (sym (ap jobReadOf (c .before .before .before .before .before .read3 .given .1)) ∙ read .0)) (c .before .before .put-refused .ensures .0)
 
 pub put-report-spec : {M : Type 1} → statement M
 put-report-spec =

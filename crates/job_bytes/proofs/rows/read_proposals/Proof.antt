@@ -4,7 +4,7 @@ use mathlib.Core.Path.{ap, _∙_}
 use borrow.Author.Needs.{needs}
 use mir.Syntax.{w64}
 use mir.Facts.{toZ-ofZ}
-use Rattle.job_bytes.specs.Numbers.{signed64}
+use Rattle.numbers.specs.Signed.{signed64}
 use Rattle.job_bytes.specs.Format.{proposalAt}
 use Rattle.job_bytes.proofs.Entries.{Front, front-start, front-on, front-end}
 use Rattle.job_bytes.proofs.rows.read_proposals.Statement.{statement}
@@ -22,7 +22,7 @@ loop-holds c = front-start _ _ _
 loop-again : tie.Need-loop-again Inv-loop μ-loop
 loop-again c =
     front-on _ _ _ (c .before .before .before .loop .inv) (c .before .before .loop-test .taken) (c .before .before .before .before .before .pre .1) _
-    (toZ-ofZ {w = w64} (record { sfits = c .signed .ok }) ∙ c .signed .ensures ∙ ap signed64 (c .before .number-at .ensures .0))
+    (toZ-ofZ {w = w64} (record { sfits = c .of-bits .ok }) ∙ c .of-bits .ensures ∙ ap signed64 (c .before .number-at .ensures .0))
 
 returns : tie.Need-returns Inv-loop μ-loop
 returns c = front-end _ _ _ (c .before .loop .inv) (c .loop-test .left)

@@ -1,33 +1,29 @@
 use Prim.Native.Nat.{_-_}
-use mathlib.Core.Path.{refl, sym, ap}
-use mathlib.Core.Bool.{Bool, cond}
-use mathlib.Core.List.{[], _++_}
+use mathlib.Core.Path.{refl}
 use native.Mathlib.Omega.{arith}
-use Rattle.report_lines.specs.Lines.{labelled, groupText}
+use Rattle.game.specs.Group.{bit}
+use Rattle.report_lines.specs.Lines.{groupText}
 use Rattle.report_lines.proofs.Listing.{Listed, listed-start, listed-on, listed-end}
 use borrow.Author.Needs.{needs}
 use Rattle.report_lines.proofs.audit.put_group.Statement.{statement}
 use Rattle.report_lines.proofs.audit.put_group.Tie as tie
 
 abbrev Inv-loop : tie.InvT-loop
-Inv-loop out₀ at words members next₀ j₀ out next j = Listed (groupText words) 21 members out₀ at out next j
+Inv-loop out₀ at members words next₀ j₀ out next j = Listed (groupText words) 21 members out₀ at out next j
 
 abbrev μ-loop : tie.MeasureT-loop
-μ-loop out₀ at words members next₀ j₀ out next j = members - j
+μ-loop out₀ at members words next₀ j₀ out next j = members - j
 
 loop-holds : tie.Need-loop-holds Inv-loop μ-loop
 unfolding groupText
-loop-holds c = listed-start _ _ _ _ _ (c .before .pre) refl
+loop-holds c = listed-start _ _ _ _ _ (c .before .pre .1) refl
 
 loop-again : tie.Need-loop-again Inv-loop μ-loop
-unfolding groupText
+unfolding groupText bit
 loop-again c =
     let put = c .before .before .put-if .ensures in
-    let words = c .before .before .before .before .before .before .before .before .args .words in
-    let j = c .before .before .before .before .before .before .loop .j in
-    listed-on _ _ _ _ _ (c .before .before .before .before .before .before .before .before .pre) (c .before .before .before .before .before .before .loop .inv) (c .before .before .before .before .before .loop-test .taken)
-    (ap (λ (b : Bool). groupText words j ++ cond b (labelled " " j) []) (sym (c .before .before .before .has .ensures)))
-    (put .0) (put .1)
+    let loop = c .before .before .before .before .before .loop in
+    listed-on _ _ _ _ _ (c .before .before .before .before .before .before .before .pre .1) (loop .inv) (c .before .before .before .before .loop-test .taken) refl (put .0) (put .1)
 
 same-length : tie.Need-same-length Inv-loop μ-loop
 same-length c = c .before .loop .inv .put .same-length
@@ -35,7 +31,7 @@ same-length c = c .before .loop .inv .put .same-length
 returns : tie.Need-returns Inv-loop μ-loop
 returns c =
     let done = c .before .loop .inv in
-    (listed-end _ _ _ _ _ (c .before .before .before .pre) done (c .loop-test .left), omega (arith, done .short, done .within))
+    (listed-end _ _ _ _ _ (c .before .before .before .pre .1) done (c .loop-test .left), omega (arith, done .short, done .within))
 
 pub put-group-spec : {M : Type 1} → statement M
 put-group-spec =
@@ -44,7 +40,8 @@ put-group-spec =
     Inv-loop
     μ-loop
     loop-holds
-    (λ c κs. search needs)
+    (λ c. search needs)
+    (λ c. search needs)
     (λ c κs. search needs)
     (λ c. search needs)
     (λ c. search needs)

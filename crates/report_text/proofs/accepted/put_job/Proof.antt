@@ -1,11 +1,9 @@
-use Prim.Native.Nat.{ℕ, _-_, _≤_}
+use Prim.Native.Nat.{ℕ, _-_}
 use mathlib.Core.Path.{_≡_, ap, _∙_}
 use native.Mathlib.Omega.{arith}
 use denote.Ref.{now}
 use lib.ListN.{length, take, replicate}
 use Rattle.game.specs.Tree.{treeOf}
-use Rattle.answers.proofs.Accepted.{tree-accepted}
-use Rattle.answers.proofs.Limits.{members-bound}
 use Rattle.text.proofs.Pieces.{put-then}
 use Rattle.report_text.specs.Report.{blank}
 use Rattle.report_text.proofs.Found.{zeros}
@@ -13,20 +11,22 @@ use borrow.Author.Needs.{needs}
 use Rattle.report_text.proofs.accepted.put_job.Statement.{statement}
 use Rattle.report_text.proofs.accepted.put_job.Tie as tie
 
-few : (c : tie.Start) → length (now (c .args .proposed)) ≤ 1023
-few c = omega (arith, c .pre .1 .0, members-bound (treeOf (now (c .args .parents)) (now (c .args .costs))) (tree-accepted _ (c .pre .0)))
-
 part-vertices-end : tie.Need-part-vertices-end
-part-vertices-end c = omega (arith, few (c .before .before .before .before .before .before .before .before))
+part-vertices-end c = omega (arith, c .before .before .before .before .before .before .before .before .pre .1 .1 .1 .0)
 
 part-by-arc-end : tie.Need-part-by-arc-end
-part-by-arc-end c = omega (arith, few (c .before .before .before .before .before .before .before .before .before))
+part-by-arc-end c = omega (arith, c .before .before .before .before .before .before .before .before .before .pre .1 .1 .1 .0)
 
 part-shares-end : tie.Need-part-shares-end
-part-shares-end c = omega (arith, few (c .before .before .before .before .before .before .before .before .before .before))
+part-shares-end c = omega (arith, c .before .before .before .before .before .before .before .before .before .before .pre .1 .1 .1 .0)
+
+put-tree-requires : tie.Need-put-tree-requires
+put-tree-requires c κs =
+    let pre = c .before .before .before .before .before .pre in
+    (pre .0, (pre .1 .0, (pre .1 .1 .0, (pre .1 .1 .1 .0, omega (arith, pre .1 .1 .1 .1)))))
 
 blanks : (c : tie.Start) → take {A = ℕ} (length (now (c .args .proposed)) - 0) (replicate 1023 0) ≡ blank (treeOf (now (c .args .parents)) (now (c .args .costs)))
-blanks c = zeros _ (few c) ∙ ap (λ (n : ℕ). replicate n 0) (c .pre .1 .0)
+blanks c = zeros _ (c .pre .1 .1 .1 .0) ∙ ap (λ (n : ℕ). replicate n 0) (c .pre .1 .0)
 
 put-splits-requires : tie.Need-put-splits-requires
 put-splits-requires c κs =
@@ -41,7 +41,7 @@ pub put-job-spec : {M : Type 1} → statement M
 put-job-spec =
     tie.close
     (tie.spec
-    (λ c κs. search needs)
+    put-tree-requires
     (λ c. search needs)
     (λ c. search needs)
     part-vertices-end

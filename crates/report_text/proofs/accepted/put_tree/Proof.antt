@@ -1,32 +1,25 @@
 use mathlib.Core.Path.{ap, _∙_}
 use native.Mathlib.Omega.{arith}
-use denote.Ref.{now}
 use lib.ListN.{length, length-replicate}
-use Rattle.game.specs.Tree.{treeOf}
-use Rattle.answers.proofs.Accepted.{Accepted, tree-accepted}
-use Rattle.answers.proofs.Limits.{members-bound}
 use Rattle.report_text.proofs.Found.{zeros}
 use Rattle.report_text.proofs.Joined.{tree-joined}
 use borrow.Author.Needs.{needs}
 use Rattle.report_text.proofs.accepted.put_tree.Statement.{statement}
 use Rattle.report_text.proofs.accepted.put_tree.Tie as tie
 
-sound : (c : tie.Start) → Accepted (treeOf (now (c .args .parents)) (now (c .args .costs)))
-sound c = tree-accepted _ (c .pre .0)
-
 part-needs-end : tie.Need-part-needs-end
-part-needs-end c = omega (arith, sound (c .before .before .before) .few)
+part-needs-end c = omega (arith, c .before .before .before .pre .1 .1 .0)
 
 put-cost-requires : tie.Need-put-cost-requires
 put-cost-requires c κs =
     let start = c .before .before .before .before .before in
-    (start .pre .0, (ap length (zeros _ (sound start .few)) ∙ length-replicate _ 0, omega (arith, start .pre)))
+    (start .pre .0, (ap length (zeros _ (start .pre .1 .1 .0)) ∙ length-replicate _ 0, omega (arith, start .pre)))
 
 put-audit-requires : tie.Need-put-audit-requires
 put-audit-requires c κs =
     let start = c .before .before .before .before .before .before .before .before .before .before .before in
     let cost = c .before .before .before .before .before .put-cost .ensures in
-    (omega (arith, start .pre .1 .0, members-bound _ (sound start)), omega (arith, start .pre, cost .0 .same-length, cost .1))
+    (start .pre .1 .1 .1 .0, omega (arith, start .pre, cost .0 .same-length, cost .1))
 
 returns : tie.Need-returns
 returns c =

@@ -23,7 +23,7 @@ abbrev μ-loop : tie.MeasureT-loop
 loop-holds : tie.Need-loop-holds Inv-loop μ-loop
 loop-holds c =
     let pre = c .before .before .before .before .before .before .before .before .pre in
-    (pre .0, pre .1 .0, placing-start _ _ (c .before .before .clear .ensures ∙ ap (λ (m : ℕ). replicate m 0) (pre .1 .1 .1)))
+    (pre .0, pre .1 .0, placing-start _ _ (c .before .before .write-all .ensures ∙ ap (λ (m : ℕ). replicate m 0) (pre .1 .1 .1)))
 
 -- the turn's member stands at an arc
 member-here : (c : tie.In-loop Inv-loop μ-loop)

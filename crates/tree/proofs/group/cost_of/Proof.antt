@@ -6,22 +6,23 @@ use denote.Ref.{now}
 use native.Mathlib.Omega.{arith}
 use borrow.Author.Needs.{needs}
 use Rattle.game.specs.Tree.{treeOf}
+use Rattle.game.specs.Group.{bit}
 use Rattle.answers.proofs.Accepted.{Accepted, tree-accepted}
-use Rattle.tree.proofs.GroupPass.{Costing, inUse, costing-start, costing-room, costing-number, costing-used, costing-fits, costing-on, costing-end}
+use Rattle.tree.proofs.GroupPass.{Costing, inUse, costing-start, costing-room, costing-few, costing-number, costing-used, costing-fits, costing-on, costing-end}
 use Rattle.tree.proofs.group.cost_of.Statement.{statement}
 use Rattle.tree.proofs.group.cost_of.Tie as tie
 
 abbrev Inv-loop : tie.InvT-loop
-Inv-loop parents costs words members has-child₀ used₀ j₀ cost₀ k₀ has-child used j cost k =
+Inv-loop parents costs members words has-child₀ used₀ j₀ cost₀ k₀ has-child used j cost k =
     Accepted (treeOf parents costs) × (0 < k) × (k ≤ length parents + 1) × Costing (treeOf parents costs) words has-child used j cost (k - 1)
 
 abbrev μ-loop : tie.MeasureT-loop
-μ-loop parents costs words members has-child₀ used₀ j₀ cost₀ k₀ has-child used j cost k = k
+μ-loop parents costs members words has-child₀ used₀ j₀ cost₀ k₀ has-child used j cost k = k
 
 loop-holds : tie.Need-loop-holds Inv-loop μ-loop
 loop-holds c =
     let ok = tree-accepted _ (c .before .before .pre .0) in
-    (ok, omega arith, omega arith, costing-start _ (c .before .before .args .words) ok (omega arith) (c .before .before .pre .1))
+    (ok, omega arith, omega arith, costing-start _ (c .before .before .args .t3) ok (omega arith) (c .before .before .pre .1))
 
 parent-here : (c : tie.In-loop Inv-loop μ-loop)
     → getD (now (c .before .before .before .before .args .parents)) (c .before .loop .k - 1 - 1) 0 < 1024
@@ -30,18 +31,29 @@ parent-here c = omega (arith, c .before .loop .inv .0 .rooted (c .before .loop .
 sub-j : tie.Need-sub-j Inv-loop μ-loop
 sub-j c =
     let at = c .before .before .loop in
-    costing-room _ (c .before .before .before .before .before .args .words) (at .inv .0) _ (at .k - 1 - 1) (omega arith) (omega arith) (at .inv .3) _ (c .one-if-member .ensures)
+    costing-room _ (c .before .before .before .before .before .args .t3) (at .inv .0) _ (at .k - 1 - 1) (omega arith) (omega arith) (at .inv .3) _ (c .one-if-member .ensures)
+
+-- a member number has a word
+few : (c : tie.After-one-if-member Inv-loop μ-loop) → c .before .before .loop .j ≤ 1023
+few c = let at = c .before .before .loop in costing-few _ (c .before .before .before .before .before .args .t3) (at .inv .0) _ (at .k - 1 - 1) (omega arith) (omega arith) (at .inv .3)
+
+mul-in-word : tie.Need-mul-in-word Inv-loop μ-loop
+mul-in-word c = omega (arith, few c)
+
+array-read-in-word : tie.Need-array-read-in-word Inv-loop μ-loop
+array-read-in-word c = omega (arith, few c)
 
 -- whether the turn's arc is used
 here-used : (c : tie.After-used-here Inv-loop μ-loop)
     → c .used-here .result
     ≡ inUse (treeOf (now (c .before .before .before .before .before .before .before .args .parents)) (now (c .before .before .before .before .before .before .before .args .costs)))
-    (c .before .before .before .before .before .before .before .args .words) (c .before .before .before .before .loop .k - 1)
+    (c .before .before .before .before .before .before .before .args .t3) (c .before .before .before .before .loop .k - 1)
+unfolding bit
 here-used c =
     let at = c .before .before .before .before .loop in
     c .used-here .ensures
-    ∙ ap (λ (b : Bool). cond (getD (at .has-child) (at .k - 1) false) (getD (at .used) (at .k - 1) false) b) (c .before .has .ensures)
-    ∙ costing-used _ (c .before .before .before .before .before .before .before .args .words) (at .inv .0) _ (at .k - 1 - 1) (omega arith) (omega arith) (at .inv .3) _
+    ∙ ap (λ (b : Bool). cond (getD (at .has-child) (at .k - 1) false) (getD (at .used) (at .k - 1) false) b) (c .before .in-word .ensures)
+    ∙ costing-used _ (c .before .before .before .before .before .before .before .args .t3) (at .inv .0) _ (at .k - 1 - 1) (omega arith) (omega arith) (at .inv .3) _
     (costing-number _ _ (at .inv .0) _ (at .k - 1 - 1) (omega arith) (omega arith) (at .inv .3) _ (c .before .before .one-if-member .ensures))
 
 add-cost : tie.Need-add-cost Inv-loop μ-loop
@@ -49,7 +61,7 @@ add-cost c =
     let at = c .before .before .before .before .before .before .loop in
     omega (
       arith,
-      costing-fits _ (c .before .before .before .before .before .before .before .before .before .args .words) (at .inv .0) _ (at .k - 1 - 1) (omega arith) (omega arith) (at .inv .3)
+      costing-fits _ (c .before .before .before .before .before .before .before .before .before .args .t3) (at .inv .0) _ (at .k - 1 - 1) (omega arith) (omega arith) (at .inv .3)
           (here-used (c .before .before)) (c .cost-if .ensures),
     )
 
@@ -92,6 +104,8 @@ cost-of-spec =
     sub-j
     (λ c. search needs)
     (λ c. search needs)
+    mul-in-word
+    array-read-in-word
     (λ c κs. search needs)
     (λ c κs. search needs)
     (λ c. search needs)

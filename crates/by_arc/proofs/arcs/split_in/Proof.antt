@@ -1,0 +1,55 @@
+use mathlib.Core.Path.{_∙_}
+use mathlib.Core.List.{[]}
+use Rattle.game.specs.Tree.{treeOf, network}
+use Rattle.answers.proofs.Accepted.{tree-accepted}
+use Rattle.tree.proofs.Bounds.{sound}
+use Rattle.tree.proofs.CapPass.{member-count}
+use Rattle.by_arc.proofs.Split.{counts-some, split-parts, split-is}
+use borrow.Author.Needs.{needs}
+use Rattle.by_arc.proofs.arcs.split_in.Statement.{statement}
+use Rattle.by_arc.proofs.arcs.split_in.Tie as tie
+
+write-user-counts-requires : tie.Need-write-user-counts-requires
+write-user-counts-requires c κs =
+    let pre = c .before .before .before .before .before .before .before .before .before .pre in (sound _ (tree-accepted _ (pre .0)), (pre .1 .0, (pre .1 .1 .0, pre .1 .1 .1 .0)))
+
+divide-requires : tie.Need-divide-requires
+divide-requires c κs =
+    let counted = c .before .before .before .before .before .before .before in
+    let pre = counted .before .before .before .before .before .before .before .before .before .before .pre in
+    let ok = tree-accepted _ (pre .0) in (
+      counted .write-user-counts .kept .1 .1 .1 .0 ∙ pre .1 .1 .1 .0 ∙ ok .same,
+      (pre .1 .1 .1 .1 .0 ∙ ok .same, (pre .1 .1 .1 .1 .1 ∙ ok .same, counts-some _ ok (counted .write-user-counts .ensures))),
+    )
+
+write-shares-requires : tie.Need-write-shares-requires
+write-shares-requires c κs =
+    let divided = c .before .before .before .before .before .before .before in
+    let counted = divided .before .before .before .before .before .before .before .before in
+    let pre = counted .before .before .before .before .before .before .before .before .before .before .pre in
+    let ok = tree-accepted _ (pre .0) in
+    let parts = split-parts _ ok (counted .write-user-counts .ensures) (divided .divide .ensures .0) (divided .divide .ensures .1) in
+    (sound _ ok, (pre .1 .0, (parts, counted .write-user-counts .kept .1 .1 .0 ∙ pre .1 .1 .0)))
+
+returns : tie.Need-returns
+returns c =
+    let shared = c .before .before .before .before in
+    let divided = shared .before .before .before .before .before .before .before .before in
+    let counted = divided .before .before .before .before .before .before .before .before in
+    let pre = counted .before .before .before .before .before .before .before .before .before .before .pre in
+    let one-a-member = counted .write-user-counts .kept .1 .1 .0 ∙ pre .1 .1 .0 ∙ member-count (network (treeOf _ [])) (pre .1 .0) in
+    shared .write-shares .ensures
+    ∙ split-is _ (tree-accepted _ (pre .0)) (counted .write-user-counts .ensures) (divided .divide .ensures .0) (divided .divide .ensures .1) one-a-member
+
+pub split-in-spec : {M : Type 1} → statement M
+split-in-spec =
+    tie.close
+    (tie.spec
+    write-user-counts-requires
+    divide-requires
+    write-shares-requires
+    (λ c. search needs)
+    (λ c. search needs)
+    (λ c. search needs)
+    (λ c. search needs)
+    returns)

@@ -1,0 +1,72 @@
+use Prim.Native.Nat.{ℕ, _-_}
+use mathlib.Core.Path.{_≡_, ap}
+use mathlib.Core.List.{List, []}
+use native.Mathlib.Omega.{arith}
+use lib.ListN.{length, getD}
+use Rattle.game.specs.Network.{members}
+use Rattle.game.specs.Tree.{treeOf, network}
+use Rattle.tree.specs.Passes.{Sound}
+use Rattle.tree.proofs.CapPass.{member-in}
+use Rattle.by_arc.specs.Parts.{Parts}
+use Rattle.by_arc.proofs.Serving.{Serving, serving-start, serving-parts, serving-on, serving-end}
+use borrow.Author.Needs.{needs}
+use Rattle.by_arc.proofs.shares.write_shares.Statement.{statement}
+use Rattle.by_arc.proofs.shares.write_shares.Tie as tie
+
+abbrev Inv-loop : tie.InvT-loop
+Inv-loop parents vertices each more₀ shares₀ j₀ more shares j =
+    Sound parents
+    × (vertices ≡ members (network (treeOf parents [])))
+    × Parts (length parents) each more₀
+    × (length shares₀ ≡ length vertices)
+    × Serving parents each more₀ shares₀ more shares j
+
+abbrev μ-loop : tie.MeasureT-loop
+μ-loop parents vertices each more₀ shares₀ j₀ more shares j = length vertices - j
+
+loop-holds : tie.Need-loop-holds Inv-loop μ-loop
+loop-holds c =
+    let pre = c .before .before .before .before .before .pre in
+    (pre .0, pre .1 .0, pre .1 .1 .0, pre .1 .1 .1, serving-start _ _ _ _ (pre .1 .1 .0))
+
+cast-share-of : tie.Need-cast-share-of Inv-loop μ-loop
+cast-share-of c = omega (arith, c .shared-slice-known4 .given (c .before .before .before .loop .j))
+
+share-of-requires : tie.Need-share-of-requires Inv-loop μ-loop
+share-of-requires c κs =
+    let at = c .before .before .before .loop in
+    (at .inv .0, (serving-parts _ _ _ _ (at .inv .2) (at .inv .4), member-in (network (treeOf _ [])) (at .inv .1) (at .j) (omega arith) .high))
+
+loop-again : tie.Need-loop-again Inv-loop μ-loop
+loop-again c =
+    let at = c .before .before .before .before .before .before .loop in
+    let got = c .before .before .share-of .ensures in (
+      at .inv .0,
+      at .inv .1,
+      at .inv .2,
+      at .inv .3,
+      serving-on _ _ _ _ (at .inv .2) (at .inv .4) (omega arith) _ (ap (λ (l : List ℕ). getD l (at .j) 0) (at .inv .1)) _ (got .0) (got .1),
+    )
+
+returns : tie.Need-returns Inv-loop μ-loop
+returns c = let inv = c .before .loop .inv in serving-end _ _ _ _ (inv .2) (inv .4) (omega arith)
+
+pub write-shares-spec : {M : Type 1} → statement M
+write-shares-spec =
+    tie.close
+    (tie.spec
+    Inv-loop
+    μ-loop
+    loop-holds
+    (λ c. search needs)
+    (λ c. search needs)
+    cast-share-of
+    share-of-requires
+    (λ c. search needs)
+    (λ c. search needs)
+    (λ c. search needs)
+    (λ c. search needs)
+    loop-again
+    (λ c. search needs)
+    (λ c. search needs)
+    returns)

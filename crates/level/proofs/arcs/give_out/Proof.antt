@@ -1,0 +1,98 @@
+use Prim.Native.Nat.{ℕ, _-_, _≤_}
+use mathlib.Core.Path.{_≡_, refl, sym, ap, _∙_}
+use mathlib.Core.List.{[]}
+use native.Mathlib.Omega.{arith}
+use lib.ListN.{length, replicate}
+use Rattle.game.specs.Network.{memberCount}
+use Rattle.game.specs.Tree.{treeOf, network}
+use Rattle.answers.proofs.Accepted.{tree-accepted}
+use Rattle.users.proofs.Parts.{part-within, part-lists}
+use Rattle.fill.proofs.Arc.{lists-numbers}
+use Rattle.level.proofs.Splitting.{Ready, few, Splitting, splitting-start, splitting-room, splitting-on, splitting-end}
+use borrow.Author.Needs.{needs}
+use Rattle.level.proofs.arcs.give_out.Statement.{statement}
+use Rattle.level.proofs.arcs.give_out.Tie as tie
+
+abbrev Inv-loop : tie.InvT-loop
+Inv-loop parents costs caps starts counts order shares₀ k₀ shares k =
+    Ready parents costs caps starts counts order × (k ≤ length parents) × (length shares ≡ memberCount (network (treeOf parents []))) × Splitting (treeOf parents costs) caps shares k
+
+abbrev μ-loop : tie.MeasureT-loop
+μ-loop parents costs caps starts counts order shares₀ k₀ shares k = k
+
+loop-holds : tie.Need-loop-holds Inv-loop μ-loop
+loop-holds c =
+    let pre = c .before .before .before .before .before .before .before .before .before .before .before .pre in
+    let ok = tree-accepted _ (pre .0) in (
+      record { accepted = ok; capped = pre .1 .0; enough = pre .1 .1 .1 .0; laid = pre .1 .1 .1 .1 },
+      omega arith,
+      c .before .before .write-all .kept .0 ∙ pre .1 .1 .0,
+      splitting-start _ _ ok (pre .1 .1 .1 .0) refl (c .before .before .write-all .ensures ∙ ap (λ (n : ℕ). replicate n 0) (pre .1 .1 .0)),
+    )
+
+add-to : tie.Need-add-to Inv-loop μ-loop
+add-to c =
+    let at = c .before .before .before .loop in omega (arith, part-within (at .inv .0 .laid) (at .k) (omega arith) (at .inv .1), at .inv .0 .laid .order-sized, few (at .inv .0))
+
+mul-split-arc : tie.Need-mul-split-arc Inv-loop μ-loop
+mul-split-arc c =
+    let at = c .before .before .before .loop in omega (arith, part-within (at .inv .0 .laid) (at .k) (omega arith) (at .inv .1), at .inv .0 .laid .order-sized, few (at .inv .0))
+
+part-split-arc-end : tie.Need-part-split-arc-end Inv-loop μ-loop
+part-split-arc-end c =
+    let at = c .before .before .before .loop in omega (arith, part-within (at .inv .0 .laid) (at .k) (omega arith) (at .inv .1))
+
+cast-split-arc : tie.Need-cast-split-arc Inv-loop μ-loop
+cast-split-arc c = omega (arith, c .shared-slice-known9 .given (c .before .before .before .before .before .before .loop .k - 1))
+
+split-arc-requires : tie.Need-split-arc-requires Inv-loop μ-loop
+split-arc-requires c κs =
+    let at = c .before .before .before .before .before .before .loop in
+    let ready = at .inv .0 in
+    lists-numbers _ (at .k) _ (part-lists (ready .laid) (at .k) (omega arith) (at .inv .1)) _ _ (ready .capped .sized) (few ready) (at .inv .2 ∙ sym (ready .capped .sized))
+
+loop-again : tie.Need-loop-again Inv-loop μ-loop
+loop-again c =
+    let at = c .before .before .before .before .before .before .before .before .before .loop in
+    let ready = at .inv .0 in
+    let last = at .inv .3 in (
+      ready,
+      omega (arith, at .inv .1),
+      c .before .before .split-arc .kept .1 .1 .0 ∙ at .inv .2,
+      splitting-on _ _ (ready .accepted) (ready .enough) (at .k) (at .k - 1) (at .inv .1) (omega arith) last
+          (c .before .before .split-arc .ensures .is _ (at .k) (part-lists (ready .laid) (at .k) (omega arith) (at .inv .1)) (ready .capped .sized) (few ready)
+          (splitting-room _ _ (ready .accepted) (ready .enough) (at .k) (at .k - 1) (at .inv .1) (omega arith) last (ready .capped .limited))),
+    )
+
+returns : tie.Need-returns Inv-loop μ-loop
+returns c = let at = c .before .loop in splitting-end _ _ (at .inv .0 .accepted) (at .inv .0 .enough) (omega (arith, c .loop-test .left)) (at .inv .3)
+
+pub give-out-spec : {M : Type 1} → statement M
+give-out-spec =
+    tie.close
+    (tie.spec
+    Inv-loop
+    μ-loop
+    (λ c κs. search needs)
+    loop-holds
+    (λ c. search needs)
+    (λ c. search needs)
+    (λ c. search needs)
+    (λ c. search needs)
+    (λ c. search needs)
+    (λ c. search needs)
+    add-to
+    mul-split-arc
+    (λ c. search needs)
+    (λ c. search needs)
+    part-split-arc-end
+    (λ c. search needs)
+    (λ c. search needs)
+    (λ c. search needs)
+    cast-split-arc
+    split-arc-requires
+    (λ c. search needs)
+    (λ c. search needs)
+    loop-again
+    (λ c. search needs)
+    returns)

@@ -1,0 +1,43 @@
+use mathlib.Core.Path.{_∙_}
+use Rattle.answers.proofs.Accepted.{tree-accepted}
+use Rattle.tree.proofs.Bounds.{sound}
+use Rattle.tree.proofs.Vertices.{vertices-count}
+use borrow.Author.Needs.{needs}
+use Rattle.level.proofs.arcs.split_laid_out.Statement.{statement}
+use Rattle.level.proofs.arcs.split_laid_out.Tie as tie
+
+write-user-counts-requires : tie.Need-write-user-counts-requires
+write-user-counts-requires c κs =
+    let pre = c .before .before .before .before .before .before .before .before .before .before .pre in (sound _ (tree-accepted _ (pre .0)), (pre .1 .0, (pre .1 .1 .1 .0, pre .1 .1 .1 .1 .1 .1 .0)))
+
+lay-out-requires : tie.Need-lay-out-requires
+lay-out-requires c κs =
+    let counted = c .before .before .before .before .before .before .before in
+    let pre = counted .before .before .before .before .before .before .before .before .before .before .before .pre in
+    (sound _ (tree-accepted _ (pre .0)), (pre .1 .0, (counted .write-user-counts .ensures, (pre .1 .1 .1 .1 .1 .0, pre .1 .1 .1 .1 .1 .1 .1))))
+
+give-out-requires : tie.Need-give-out-requires
+give-out-requires c κs =
+    let laid = c .before .before .before .before .before .before .before .before in
+    let counted = laid .before .before .before .before .before .before .before .before in
+    let pre = counted .before .before .before .before .before .before .before .before .before .before .before .pre in
+    let members = vertices-count _ _ (pre .1 .0) in (
+      pre .0,
+      (
+        record { sized = pre .1 .1 .0 .sized ∙ members; limited = pre .1 .1 .0 .limited },
+        (counted .write-user-counts .kept .1 .1 .0 ∙ pre .1 .1 .1 .0 ∙ members, (pre .1 .1 .1 .1 .0, laid .lay-out .ensures)),
+      ),
+    )
+
+pub split-laid-out-spec : {M : Type 1} → statement M
+split-laid-out-spec =
+    tie.close
+    (tie.spec
+    write-user-counts-requires
+    lay-out-requires
+    give-out-requires
+    (λ c. search needs)
+    (λ c. search needs)
+    (λ c. search needs)
+    (λ c. search needs)
+    (λ c. search needs))

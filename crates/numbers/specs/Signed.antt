@@ -1,0 +1,9 @@
+-- Signed numbers by their bits.
+use Prim.Native.Nat.{ℕ, _-_, _^_}
+use mathlib.Core.Bool.{cond}
+use lib.Dec.{ltb}
+use lib.IntN.{ℤ, pos, negsuc}
+
+-- the number with these 64 bits in two's complement
+unfoldable pub signed64 : ℕ → ℤ
+signed64 bits = cond (ltb bits (2 ^ 63)) (pos bits) (negsuc (2 ^ 64 - 1 - bits))

@@ -1,0 +1,31 @@
+// A signed number taken apart, and made of its bits. -1 - x turns a sign and fits for every x.
+ghost use mathlib.Core.Path.{_≡_};
+ghost use Rattle.game.specs.Proposal.{plus as plusOf, minus as minusOf};
+ghost use Rattle.numbers.specs.Signed.{signed64};
+
+// x where it is positive, else 0.
+pub fn plus(x: i64) -> u64
+    ensures { λ r. ⌜ r ≡ plusOf x ⌝ }
+{
+    if x < 0 { 0 } else { x as u64 }
+}
+
+// -x where x is negative, else 0.
+pub fn minus(x: i64) -> u64
+    ensures { λ r. ⌜ r ≡ minusOf x ⌝ }
+{
+    if x < 0 { (-1 - x) as u64 + 1 } else { 0 }
+}
+
+const MOST_POSITIVE: u64 = i64::MAX as u64;
+
+// The number with these bits in two's complement.
+pub fn of_bits(bits: u64) -> i64
+    ensures { λ r. ⌜ r ≡ signed64 bits ⌝ }
+{
+    if bits <= MOST_POSITIVE {
+        bits as i64
+    } else {
+        -1 - ((u64::MAX - bits) as i64)
+    }
+}

@@ -1,0 +1,42 @@
+-- The cap sums where every cap is 1 are the numbers of users.
+use Prim.Native.Nat.{ℕ, pred, _-_}
+use mathlib.Core.Path.{_≡_, sym, ap, _∙_, fun-ext}
+use mathlib.Core.List.{List, []}
+use native.Mathlib.Decide.{decLt}
+use native.Mathlib.Omega.{arith}
+use lib.ListN.{length, getD, replicate, length-replicate, getD-replicate, List·getD-eq-default}
+use Rattle.game.specs.Sum.{pick, list}
+use Rattle.game.specs.Network.{memberCount}
+use Rattle.game.specs.Tree.{treeOf, network}
+use Rattle.game.specs.Group.{size}
+use Rattle.game.specs.Core.{users}
+use Rattle.game.specs.ByArc.{userCount}
+use Rattle.game.proofs.Sums.{sum-cong}
+use Rattle.game.proofs.NaturalShares.{users-by-vertex}
+use Rattle.answers.specs.Level.{Capped, capSum}
+
+-- k ones, one a member
+module _ {ones : List ℕ} {k : ℕ} (are : ones ≡ replicate k 1) where
+  pub ones-capped : {n : ℕ} → k ≡ n → Capped n ones
+  ones-capped {n} e =
+      rw (are, e)
+      (record {
+        sized = length-replicate n 1;
+        limited = λ j.
+            elim (decLt j n) [
+              | yes h ↦ omega (arith, getD-replicate {A = ℕ} n j 1 0 h)
+              | no h ↦ omega (arith, List·getD-eq-default {A = ℕ} (replicate n 1) 0 {n = j} (omega (arith, length-replicate {A = ℕ} n 1)))
+            ];
+      })
+
+  pub ones-count : (ps : List ℕ) → k ≡ memberCount (network (treeOf ps []))
+      → list (length ps) (capSum (network (treeOf ps [])) ones) ≡ list (length ps) (userCount (network (treeOf ps [])))
+  unfolding size
+  ones-count ps e =
+      let n = network (treeOf ps []) in
+      rw (are, e)
+      (ap (list (length ps))
+      (fun-ext
+      (λ a.
+      sym (users-by-vertex n (λ j. getD (replicate (memberCount n) 1) j 0) a)
+      ∙ sum-cong (memberCount n) (λ i h. ap (pick (users n a (pred i))) (getD-replicate {A = ℕ} (memberCount n) (pred i) 1 0 (omega (arith, h .low, h .high)))))))

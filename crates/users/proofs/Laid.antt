@@ -1,0 +1,167 @@
+-- The layout from what the two loops write.
+use Prim.Native.Nat.{ℕ, zero, suc, pred, _+_, _≤_, _<_}
+use mathlib.Core.Path.{_≡_, refl, sym, ap, _∙_}
+use mathlib.Core.List.{List, []}
+use native.Mathlib.Omega.{arith}
+use borrow.Author.Tests.{eq-eqb}
+use lib.ListN.{length, getD, take, drop}
+use lib.Seq.{drop-cons}
+use lib.Dec.{eqb}
+use Rattle.game.specs.Sum.{pick, sum, list}
+use Rattle.game.specs.Network.{Network, atOrBelow, memberCount, members}
+use Rattle.game.specs.Tree.{treeOf, network, ofArc}
+use Rattle.game.specs.Core.{users}
+use Rattle.game.specs.ByArc.{userCount}
+use Rattle.game.proofs.Bools.{pick-yes}
+use Rattle.game.proofs.Sums.{In, sum-cong, sum-at, sum-longer, term-le}
+use Rattle.game.proofs.Sizes.{size-le}
+use Rattle.game.proofs.Lists.{list-length, list-at}
+use Rattle.game.proofs.Below.{below-self}
+use Rattle.game.proofs.Shapley.{user-count-pos}
+use Rattle.answers.proofs.CoreLaws.{members-end}
+use Rattle.tree.specs.Passes.{Sound}
+use Rattle.tree.proofs.CapPass.{member-in}
+use Rattle.users.specs.Users.{total, LaidOut}
+use Rattle.users.specs.Layout.{Counts, Begun, slot, Apart, Ordered}
+use Rattle.users.proofs.UserSums.{vertex, over-members, over-users, users-count}
+use Rattle.users.proofs.Walk.{held, before, Begins, arc-filled, all-filled, arc-within}
+use Rattle.tree.proofs.Vertices.{vertices-count, vertices-few}
+
+-- the sum over a part of a list
+part-total : (g : ℕ → ℕ) (l : List ℕ) (c a : ℕ) → a + c ≤ length l
+    → before (λ s. g (getD l s 0)) a + total g (take c (drop a l)) ≡ before (λ s. g (getD l s 0)) (a + c)
+unfolding total
+part-total g l zero a h = let e : a + 0 ≡ a = omega arith in rw e (omega arith)
+part-total g l (suc c) a h =
+    let e : a + suc c ≡ suc a + c = omega arith in
+    rw (e, drop-cons l a 0 (omega arith)) (omega (arith, part-total g l c (suc a) (omega arith)))
+
+-- two terms are part of a sum
+two-terms : (m a b : ℕ) (f : ℕ → ℕ) → 0 < a → a ≤ b → suc b ≤ m → f a + f (suc b) ≤ sum m f
+two-terms m a b f low less high = omega (arith, term-le b a f (omega arith), sum-longer (suc b) m f high)
+
+-- the numbers of users as they are handed in
+pub user-counts : (ps : List ℕ) → Sound ps → {counts : List ℕ} → counts ≡ list (length ps) (userCount (network (treeOf ps []))) → Counts (length ps) counts
+user-counts ps sound e =
+    let n = network (treeOf ps []) in
+    rw e
+    (record {
+      sized = list-length (userCount n) 0 (length ps);
+      limited =
+          λ i h.
+          omega (
+            arith,
+            list-at (userCount n) 0 (length ps) i h,
+            size-le (memberCount n) (users n (suc i)),
+            vertices-count ps (members n) refl,
+            vertices-few ps (members n) refl sound,
+          );
+    })
+
+module _ (ps counts starts : List ℕ) (sound : Sound ps) (counted : counts ≡ list (length ps) (userCount (network (treeOf ps []))))
+    (begun : Begun ps counts starts) where
+  abbrev net : Network
+  net = network (treeOf ps [])
+
+  count-of : (k : ℕ) → In (length ps) k → ofArc counts k ≡ held net k
+  count-of zero i = absurd (omega arith)
+  count-of (suc k) i = ap (λ (l : List ℕ). getD l k 0) counted ∙ list-at (userCount net) 0 (length ps) k (omega arith) ∙ users-count net (suc k)
+
+  begins : Begins net (ofArc starts)
+  begins =
+      record {
+        source = refl;
+        after =
+            λ i h.
+            begun .after i h
+            ∙ ap (λ (s : ℕ). ofArc starts (getD ps i 0) + s)
+            (sum-cong i (λ u j. ap (pick (eqb (ofArc ps u) (getD ps i 0))) (count-of u (omega arith))));
+      }
+
+  arc-reach : (k : ℕ) → In (length ps) k → ofArc starts k + ofArc counts k ≤ memberCount net
+  arc-reach k i = omega (arith, arc-within net (ofArc starts) (sound .rising) begins k i, count-of k i)
+
+  module _ {vertices : List ℕ} (are : vertices ≡ members net) where
+    -- the members' places are those below their number
+    slots : (g : ℕ → ℕ) → sum (memberCount net) (λ i. g (slot vertices starts (pred i))) ≡ before g (memberCount net)
+    slots g = rw are (over-members net (λ v. g (ofArc starts v)) ∙ all-filled net (ofArc starts) (sound .rising) begins (members-end (treeOf ps [])) g)
+
+    -- one of the places below the number of members is s
+    single : (s : ℕ) → s < memberCount net → before (λ t. pick (eqb (suc s) (suc t)) 1) (memberCount net) ≡ 1
+    single s h =
+        sum-cong (memberCount net) (λ i j. let e : suc (pred i) ≡ i = omega arith in ap (λ (t : ℕ). pick (eqb (suc s) t) 1) e)
+        ∙ sum-at (memberCount net) (suc s) (λ t. 1) (omega arith)
+
+    slot-within : (j : ℕ) → j < length vertices → slot vertices starts j < memberCount net
+    slot-within j h =
+        let v = getD vertices j 0 in
+        omega (
+          arith,
+          arc-reach v (member-in net are j h),
+          count-of v (member-in net are j h),
+          users-count net v,
+          user-count-pos net v j (omega (arith, vertices-count ps vertices are))
+              (ap (λ (l : List ℕ). atOrBelow net v (getD l j 0)) (sym are) ∙ below-self net (sound .rising) v),
+        )
+
+    -- two members at one place would count it twice
+    slots-apart : (i j : ℕ) → i < j → j < length vertices → slot vertices starts i ≡ slot vertices starts j → ⊥
+    slots-apart i j less h e =
+        let s : ℕ → ℕ = slot vertices starts in
+        let g : ℕ → ℕ = λ t. pick (eqb (suc (s j)) (suc t)) 1 in
+        omega (
+          arith,
+          two-terms (memberCount net) (suc i) j (λ u. g (s (pred u))) (omega arith) (omega arith) (omega (arith, vertices-count ps vertices are)),
+          slots g,
+          single (s j) (slot-within j h),
+          pick-yes 1 (eq-eqb (suc (s j)) (suc (s i)) (ap suc (sym e))),
+          pick-yes 1 (eq-eqb (suc (s j)) (suc (s j)) refl),
+        )
+
+    pub members-apart : Apart vertices starts
+    members-apart =
+        record {
+          few = vertices-few ps vertices are sound;
+          first = λ j h. member-in net are j h .low;
+          last = λ j h. omega (arith, member-in net are j h .high, begun .kept);
+          within = λ j h. omega (arith, slot-within j h, vertices-count ps vertices are);
+          apart = slots-apart;
+        }
+
+    module _ {order : List ℕ} (sized : length order ≡ length vertices) (ordered : Ordered vertices starts order) where
+      part-within : (k : ℕ) → In (length ps) k → ofArc starts k + ofArc counts k ≤ length order
+      part-within k i = omega (arith, arc-reach k i, vertices-count ps vertices are)
+
+      -- what stands at the users' places are their numbers
+      at-slots : (g : ℕ → ℕ) (k : ℕ)
+          → sum (memberCount net) (λ i. pick (users net k (pred i)) (g (getD order (ofArc starts (vertex net (pred i))) 0)))
+          ≡ sum (memberCount net) (λ i. pick (users net k (pred i)) (g (pred i)))
+      at-slots g k =
+          sum-cong (memberCount net)
+          (λ i j.
+          ap (λ (u : ℕ). pick (users net k (pred i)) (g u))
+          (ap (λ (l : List ℕ). getD order (slot l starts (pred i)) 0) (sym are)
+          ∙ ordered .placed (pred i) (omega (arith, vertices-count ps vertices are))))
+
+      pub laid-out : LaidOut net starts counts order
+      laid-out =
+          record {
+            starts-sized = begun .kept;
+            counts-sized = user-counts ps sound counted .sized;
+            order-sized = sized ∙ vertices-count ps vertices are;
+            within = λ k low high. part-within k (omega arith);
+            lists =
+                λ k low high.
+                record {
+                  sums =
+                      λ g.
+                      omega (
+                        arith,
+                        part-total g order (ofArc counts k) (ofArc starts k) (part-within k (omega arith)),
+                        arc-filled net (ofArc starts) (sound .rising) begins (members-end (treeOf ps [])) (λ t. g (getD order t 0)) k (omega arith),
+                        ap (λ (c : ℕ). before (λ t. g (getD order t 0)) (ofArc starts k + c)) (count-of k (omega arith)),
+                        over-users net (λ v. g (getD order (ofArc starts v) 0)) k,
+                        at-slots g k,
+                      );
+                };
+          }

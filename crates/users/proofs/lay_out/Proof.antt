@@ -1,0 +1,23 @@
+use borrow.Author.Needs.{needs}
+use Rattle.users.proofs.Laid.{user-counts, members-apart, laid-out}
+use Rattle.users.proofs.lay_out.Statement.{statement}
+use Rattle.users.proofs.lay_out.Tie as tie
+
+write-starts-requires : tie.Need-write-starts-requires
+write-starts-requires c κs =
+    let pre = c .before .before .before .before .before .before .pre in
+    (pre .0, (user-counts _ (pre .0) (pre .1 .1 .0), pre .1 .1 .1 .0))
+
+write-order-requires : tie.Need-write-order-requires
+write-order-requires c κs =
+    let pre = c .before .before .before .before .before .before .before .before .before .before .before .pre in
+    (members-apart _ _ _ (pre .0) (pre .1 .1 .0) (c .before .before .before .before .write-starts .ensures) (pre .1 .0), pre .1 .1 .1 .1)
+
+returns : tie.Need-returns
+returns c =
+    let pre = c .before .before .before .before .before .before .before .before .before .before .before .before .before .before .pre in
+    laid-out _ _ _ (pre .0) (pre .1 .1 .0) (c .before .before .before .before .before .before .before .write-starts .ensures) (pre .1 .0)
+    (search needs) (c .before .before .write-order .ensures)
+
+pub lay-out-spec : {M : Type 1} → statement M
+lay-out-spec = tie.close (tie.spec write-starts-requires write-order-requires (λ c. search needs) (λ c. search needs) returns)
