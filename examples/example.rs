@@ -27,7 +27,7 @@ struct ZilqodurLevel {
 }
 
 #[link(name = "capi", kind = "static")]
-extern "C" {
+unsafe extern "C" {
     fn zilqodur_audit(
         parents: *const u16,
         parent_count: usize,

@@ -15,9 +15,10 @@
  *
  * What a caller must see to, since no function can test it:
  *   - every pointer is non-null and aligned for its type, also where the number of elements is 0;
- *   - a list has at least as many elements as its number says, `group` sixteen words;
+ *   - a list has at least as many elements as its number says, `group` sixteen words, a report's `out` ZILQODUR_REPORT_ROOM bytes;
  *   - no two lists of one call overlap;
- *   - nobody else writes to the lists during the call.
+ *   - nobody else writes to the lists during the call;
+ *   - 100,000 bytes of the stack are free. zilqodur_report takes 93,000 of them, every other function at most 40,000.
  *
  * No function keeps anything between calls, allocates memory or does input or output; calls from several threads are safe. Link with
  * target/staticlib/libcapi.a (x86-64 Linux). */
@@ -53,6 +54,9 @@ enum ZilqodurRefusal {
 
 /* The greatest number of arcs, and so of members, of a tree: the number of entries that zilqodur_read_job asks of each of its four lists. */
 #define ZILQODUR_MOST_ARCS 1023
+
+/* The number of bytes that zilqodur_report asks of its `out`: room for the longest report. */
+#define ZILQODUR_REPORT_ROOM 196608
 
 typedef struct ZilqodurCheck {
     uint32_t refusal;
@@ -111,6 +115,12 @@ typedef struct ZilqodurJob {
     size_t note;    /* the length of the note, which stands at the job's start */
 } ZilqodurJob;
 
+typedef struct ZilqodurReport {
+    uint32_t refusal; /* always 0 */
+    size_t place;     /* always 0 */
+    size_t length;    /* the number of bytes of the report */
+} ZilqodurReport;
+
 /* Whether the lists describe a tree. Refusals 1 to 4; 3 and 4 are looked for arc by arc. */
 ZilqodurCheck zilqodur_check_tree(const uint16_t *parents, size_t parent_count, const uint32_t *costs, size_t cost_count);
 
@@ -153,10 +163,25 @@ ZilqodurMembers zilqodur_split_by_arc(const uint16_t *parents, size_t parent_cou
                                       uint64_t *out, size_t out_count);
 
 /* Reads a job's bytes into the front of the four lists and keeps their other entries. Each list has at least ZILQODUR_MOST_ARCS entries.
+ * A job has four parts, each beginning where the one before it ends. Numbers are little-endian; their widths in bytes stand in brackets.
+ *     note           0 to 255 bytes of any content
+ *     arc rows       a row an arc, from arc 1 on: its parent (2), a filler of 0 (2), its cost (4)
+ *     member rows    a row a member, from member 0 on: its cap (8), its proposed share (8, two's complement)
+ *     trailer        how many bytes stand before the arc rows (4) and how many before the member rows (4), the number of arc rows (2) and
+ *                    of member rows (2), the version, which is 1 (2), and last the two closing bytes 0x54 and 0x4A
  * The entries that it writes no other function refuses by 1 to 4, 6 or 7. Refusals, in this order: 10 to 14, 1, 3, 4, 15, 7 on caps,
  * 7 on proposals. */
 ZilqodurJob zilqodur_read_job(const uint8_t *bytes, size_t byte_count, uint16_t *parents, size_t parent_count, uint32_t *costs,
                               size_t cost_count, uint64_t *caps, size_t cap_count, int64_t *proposals, size_t proposal_count);
+
+/* Writes the report on a job's bytes to the front of `out`, as ASCII text; each line ends in a newline and no zero byte follows the last. The
+ * other bytes of `out` keep their content. Nothing is refused: on a job that zilqodur_read_job refuses by 11 to 15, 1, 3, 4 or 7 the report is the
+ * line `refused N at PLACE`. Otherwise its lines are
+ *     cost C members N                       the whole cost, the number of members
+ *     audit group A of S: J J J              the audit's amount, size and group; or `audit total D`, the difference; or `audit pass`
+ *     level ok                               or `level refused 9 at ARC short D`
+ *     J at V: proposed P by-arc B level L    one line a member: number, vertex, three shares; L is `-` where the level split is refused */
+ZilqodurReport zilqodur_report(const uint8_t *bytes, size_t byte_count, uint8_t out[ZILQODUR_REPORT_ROOM]);
 
 #ifdef __cplusplus
 }

@@ -2,7 +2,6 @@
 //! lent list with the canaries around it.
 
 use crate::ffi::{self, *};
-use crate::job;
 use crate::lent::Lent;
 use crate::reference::{self, Answer, Refusal, Tree, Verdict};
 use crate::tally::Tally;
@@ -210,65 +209,4 @@ impl Network {
         let lists = self.kept(&p, &c) && lent.holds(&written(out, answer));
         tally.case("split_by_arc", expected.refusal, [given, expected], lists);
     }
-}
-
-/// The four lists lent to the job reader.
-pub struct JobLists {
-    pub parents: Vec<u16>,
-    pub costs: Vec<u32>,
-    pub caps: Vec<u64>,
-    pub proposals: Vec<i64>,
-}
-
-fn front<T: Clone>(list: &mut [T], rows: &[T]) {
-    list[..rows.len()].clone_from_slice(rows);
-}
-
-pub fn read_job(tally: &mut Tally, bytes: &[u8], mut lists: JobLists) {
-    let lengths = [
-        lists.parents.len(),
-        lists.costs.len(),
-        lists.caps.len(),
-        lists.proposals.len(),
-    ];
-    let (lent, mut p, mut c) = (
-        Lent::new(bytes),
-        Lent::new(&lists.parents),
-        Lent::new(&lists.costs),
-    );
-    let (mut caps, mut proposals) = (Lent::new(&lists.caps), Lent::new(&lists.proposals));
-    let given = ffi::read_job(
-        lent.list(),
-        p.list_mut(),
-        c.list_mut(),
-        caps.list_mut(),
-        proposals.list_mut(),
-    );
-    let expected = match job::read(bytes, lengths) {
-        Ok(job) => {
-            front(&mut lists.parents, &job.parents);
-            front(&mut lists.costs, &job.costs);
-            front(&mut lists.caps, &job.caps);
-            front(&mut lists.proposals, &job.proposals);
-            ZilqodurJob {
-                arcs: job.parents.len(),
-                members: job.caps.len(),
-                note: job.note.len(),
-                ..Default::default()
-            }
-        }
-        Err(r) => ZilqodurJob {
-            refusal: r.number,
-            place: r.place,
-            ..Default::default()
-        },
-    };
-    let arc_lists = p.holds(&lists.parents) && c.holds(&lists.costs);
-    let member_lists = caps.holds(&lists.caps) && proposals.holds(&lists.proposals);
-    tally.case(
-        "read_job",
-        expected.refusal,
-        [given, expected],
-        lent.holds(bytes) && arc_lists && member_lists,
-    );
 }

@@ -65,6 +65,16 @@ pub struct ZilqodurJob {
     pub note: usize,
 }
 
+pub const REPORT_ROOM: usize = 196_608;
+
+#[repr(C)]
+#[derive(Clone, Copy, Debug, Default, PartialEq)]
+pub struct ZilqodurReport {
+    pub refusal: u32,
+    pub place: usize,
+    pub length: usize,
+}
+
 unsafe extern "C" {
     fn zilqodur_check_tree(
         parents: *const u16,
@@ -145,6 +155,11 @@ unsafe extern "C" {
         proposals: *mut i64,
         proposals_len: usize,
     ) -> ZilqodurJob;
+    fn zilqodur_report(
+        bytes: *const u8,
+        bytes_len: usize,
+        out: *mut [u8; REPORT_ROOM],
+    ) -> ZilqodurReport;
 }
 
 // Safe: the pointers and lengths are those of live slices that do not overlap.
@@ -265,4 +280,8 @@ pub fn read_job(
             proposals.len(),
         )
     }
+}
+
+pub fn report(bytes: &[u8], out: &mut [u8; REPORT_ROOM]) -> ZilqodurReport {
+    unsafe { zilqodur_report(bytes.as_ptr(), bytes.len(), out) }
 }

@@ -1,8 +1,9 @@
 //! Pseudo-random job bytes: valid, with every kind of damage, and arbitrary.
 
-use crate::generate::{self, Rng};
+use crate::generate;
 use crate::job::{Job, LONGEST};
 use crate::reference::{Tree, ARCS, COST};
+use crate::rng::Rng;
 
 /// A valid job on the tree.
 pub fn valid(rng: &mut Rng, parents: &[u16], costs: &[u32], tree: &Tree) -> Job {

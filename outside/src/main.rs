@@ -3,18 +3,22 @@
 
 mod brute;
 mod compare;
+mod compare_job;
 mod ffi;
 mod generate;
 mod generate_job;
 mod job;
 mod lent;
 mod reference;
+mod report;
+mod rng;
 mod table;
 mod tally;
 
-use compare::{JobLists, Network};
-use generate::Rng;
+use compare::Network;
+use compare_job::JobLists;
 use reference::{Tree, ARCS};
+use rng::Rng;
 use std::sync::atomic::Ordering;
 use tally::Tally;
 
@@ -123,7 +127,7 @@ fn compare_lists(tally: &mut Tally, rng: &mut Rng, network: &Network, tree: &Tre
     compare::check_proposal(tally, count, &vec![0; members]);
 }
 
-/// The job reader on a valid job, on damaged copies and on arbitrary bytes.
+/// The job reader and the report on a valid job, on damaged copies and on arbitrary bytes.
 fn compare_jobs(tally: &mut Tally, rng: &mut Rng, network: &Network, tree: &Tree) {
     let valid = generate_job::valid(rng, &network.parents, &network.costs, tree);
     compare_job(tally, rng, &valid.write());
@@ -143,7 +147,7 @@ fn compare_jobs(tally: &mut Tally, rng: &mut Rng, network: &Network, tree: &Tree
     compare_job(tally, rng, &bytes);
 }
 
-/// The job reader on stars, at the greatest length and one row or byte past it.
+/// The job reader and the report on stars, at the greatest length and one row or byte past it.
 fn compare_longest(tally: &mut Tally) {
     let mut rng = Rng::new(tally.seed);
     for (arcs, note) in [(ARCS, 255), (ARCS, 256), (ARCS + 1, 0), (ARCS + 1, 231)] {
@@ -169,7 +173,8 @@ fn compare_job(tally: &mut Tally, rng: &mut Rng, bytes: &[u8]) {
         caps: filled(rng, caps, |n| n),
         proposals: filled(rng, proposals, |n| n as i64),
     };
-    compare::read_job(tally, bytes, lists);
+    compare_job::read_job(tally, bytes, lists);
+    compare_job::report(tally, bytes);
 }
 
 /// The reference against the definitions, where the network is small.

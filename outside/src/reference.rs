@@ -29,11 +29,11 @@ pub fn check_tree(parents: &[u16], costs: &[u32]) -> Answer<()> {
     if parents.len() != costs.len() {
         return refuse(2, 0);
     }
-    for arc in 1..=parents.len() {
-        if usize::from(parents[arc - 1]) >= arc {
+    for (arc, (&parent, &cost)) in (1..).zip(parents.iter().zip(costs)) {
+        if usize::from(parent) >= arc {
             return refuse(3, arc);
         }
-        if costs[arc - 1] > COST {
+        if cost > COST {
             return refuse(4, arc);
         }
     }
@@ -58,7 +58,7 @@ fn check_entries<T>(members: usize, list: &[T], fits: impl Fn(&T) -> bool) -> An
     }
 }
 
-fn check_output(length: usize, written: usize) -> Answer<()> {
+pub fn check_output(length: usize, written: usize) -> Answer<()> {
     if length == written {
         Ok(())
     } else {

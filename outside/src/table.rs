@@ -1,106 +1,122 @@
-//! Document 01's networks to try, with the values that it names.
+//! Document 01's networks to try: the reference gives the values that it names,
+//! and the archive answers and writes what the reference gives.
 
-use crate::ffi::*;
-use crate::lent::Lent;
+use crate::compare::Network;
+use crate::compare_job;
+use crate::job::Job;
+use crate::reference::{self, refuse, Answer, Refusal, Verdict};
+use crate::report;
 use crate::tally::Tally;
+use std::fmt::Debug;
 
-const T: ([u16; 4], [u32; 4]) = ([0, 1, 1, 0], [6, 1, 5, 4]);
-const U: ([u16; 3], [u32; 3]) = ([0, 1, 1], [7, 0, 0]);
-const W: ([u16; 4], [u32; 4]) = ([0, 1, 1, 0], [10, 1, 1, 8]);
-
-fn group(word: u64) -> [u64; 16] {
-    let mut words = [0; 16];
-    words[0] = word;
-    words
-}
-
-/// The verdict, its amount or difference, and the first word of the group.
-fn verdict(parents: &[u16], costs: &[u32], proposal: &[i64]) -> (u32, i64, u64) {
-    let (p, c, shares) = (Lent::new(parents), Lent::new(costs), Lent::new(proposal));
-    let answer = audit(p.list(), c.list(), shares.list());
-    let amount = answer.difference + answer.amount as i64;
-    (answer.verdict, amount, answer.group[0])
-}
-
-/// The shares, or place and shortfall of the refusal.
-fn level(parents: &[u16], costs: &[u32], caps: &[u64]) -> Result<Vec<u64>, (usize, u64)> {
-    let (p, c, limits) = (Lent::new(parents), Lent::new(costs), Lent::new(caps));
-    let mut out = Lent::new(&vec![77; caps.len()]);
-    let answer = split_level(p.list(), c.list(), limits.list(), out.list_mut());
-    match answer.refusal {
-        0 => Ok(out.list().to_vec()),
-        _ => Err((answer.place, answer.shortfall)),
+fn network(parents: &[u16], costs: &[u32]) -> Network {
+    Network {
+        parents: parents.to_vec(),
+        costs: costs.to_vec(),
     }
 }
 
-fn by_arc(parents: &[u16], costs: &[u32], members: usize) -> Vec<u64> {
-    let (p, c) = (Lent::new(parents), Lent::new(costs));
-    let mut out = Lent::new(&vec![77; members]);
-    split_by_arc(p.list(), c.list(), out.list_mut());
-    out.list().to_vec()
+fn named<T: Debug + PartialEq>(tally: &mut Tally, found: Answer<T>, expected: Answer<T>) {
+    let number = expected.as_ref().err().map_or(0, |r| r.number);
+    tally.case("table", number, [found, expected], true);
 }
 
-fn needs(parents: &[u16], costs: &[u32]) -> Vec<u64> {
-    let (p, c) = (Lent::new(parents), Lent::new(costs));
-    let mut out = Lent::new(&vec![77; parents.len()]);
-    list_needs(p.list(), c.list(), out.list_mut());
-    out.list().to_vec()
+fn check(tally: &mut Tally, parents: &[u16], costs: &[u32], expected: Answer<()>) {
+    named(tally, reference::check_tree(parents, costs), expected);
+    network(parents, costs).check_tree(tally);
 }
 
-/// The answer's refusal number and cost.
-fn group_answer(parents: &[u16], costs: &[u32], group: [u64; 16]) -> (u32, u64) {
-    let (p, c, words) = (Lent::new(parents), Lent::new(costs), Lent::new(&group));
-    let answer = group_cost(p.list(), c.list(), words.list().try_into().unwrap());
-    (answer.refusal, answer.cost)
+/// The group has bits in its first word alone.
+fn group(tally: &mut Tally, n: &Network, word: u64, expected: Answer<(usize, u64)>) {
+    let mut words = [0; 16];
+    words[0] = word;
+    let found = reference::group_cost(&n.parents, &n.costs, &words);
+    named(tally, found, expected);
+    n.group_cost(tally, &words);
+}
+
+fn needs(tally: &mut Tally, n: &Network, expected: &[u64]) {
+    let found = reference::list_needs(&n.parents, &n.costs, expected.len());
+    let needs = found.map(|(_, needs)| needs);
+    named(tally, needs, Ok(expected.to_vec()));
+    n.list_needs(tally, &vec![77; expected.len()]);
+}
+
+fn audit(tally: &mut Tally, n: &Network, proposal: &[i64], expected: Verdict) {
+    let found = reference::audit(&n.parents, &n.costs, proposal);
+    named(tally, found, Ok(expected));
+    n.audit(tally, proposal);
+}
+
+fn level(tally: &mut Tally, n: &Network, caps: &[u64], expected: Answer<Vec<u64>>) {
+    let found = reference::split_level(&n.parents, &n.costs, caps, caps.len());
+    named(tally, found, expected);
+    n.split_level(tally, caps, &vec![77; caps.len()]);
+}
+
+fn by_arc(tally: &mut Tally, n: &Network, expected: &[u64]) {
+    let found = reference::split_by_arc(&n.parents, &n.costs, expected.len());
+    named(tally, found, Ok(expected.to_vec()));
+    n.split_by_arc(tally, &vec![77; expected.len()]);
 }
 
 pub fn compare(tally: &mut Tally) {
-    let (p, c) = (&T.0, &T.1);
-    for (word, cost) in [(0, 0), (1, 7), (3, 12), (6, 15)] {
-        let answer = group_answer(p, c, group(word));
-        tally.case("table", 0, [answer, (0, cost)], true);
+    let t = network(&[0, 1, 1, 0], &[6, 1, 5, 4]);
+    for (word, size, cost) in [(0, 0, 0), (1, 1, 7), (3, 2, 12), (6, 2, 15)] {
+        group(tally, &t, word, Ok((size, cost)));
     }
-    tally.case("table", 0, [needs(p, c)[0], 12], true);
-    for (proposal, expected) in [
-        ([7, 5, 4], (0, 0, 0)),
-        ([8, 4, 4], (2, 1, 1)),
-        ([8, 4, 5], (1, 1, 0)),
-        ([-1, 13, 4], (2, 2, 2)),
-    ] {
-        tally.case("table", 0, [verdict(p, c, &proposal), expected], true);
-    }
-    for (caps, expected) in [
-        ([100, 100, 100], Ok(vec![6, 6, 4])),
-        ([3, 9, 4], Ok(vec![3, 9, 4])),
-        ([3, 8, 100], Err((1, 1))),
-    ] {
-        tally.case("table", 0, [level(p, c, &caps), expected], true);
-    }
-    tally.case("table", 0, [by_arc(p, c, 3), vec![4, 8, 4]], true);
-    tally.case("table", 0, [by_arc(&U.0, &U.1, 2), vec![4, 3]], true);
-    let shares = level(&U.0, &U.1, &[3, 100]);
-    tally.case("table", 0, [shares, Ok(vec![3, 4])], true);
-    let objection = verdict(&W.0, &W.1, &[7, 7, 6]);
-    tally.case("table", 0, [objection, (2, 2, 3)], true);
-    limits(tally);
+    needs(tally, &t, &[12, 1, 5, 4]);
+    audit(tally, &t, &[7, 5, 4], Verdict::Pass);
+    audit(tally, &t, &[8, 4, 4], Verdict::Objection(1, vec![0]));
+    audit(tally, &t, &[8, 4, 5], Verdict::WrongTotal(1));
+    audit(tally, &t, &[-1, 13, 4], Verdict::Objection(2, vec![1]));
+    level(tally, &t, &[100, 100, 100], Ok(vec![6, 6, 4]));
+    level(tally, &t, &[3, 9, 4], Ok(vec![3, 9, 4]));
+    let short = Refusal {
+        number: 9,
+        place: 1,
+        shortfall: 1,
+    };
+    level(tally, &t, &[3, 8, 100], Err(short));
+    by_arc(tally, &t, &[4, 8, 4]);
+    let u = network(&[0, 1, 1], &[7, 0, 0]);
+    by_arc(tally, &u, &[4, 3]);
+    level(tally, &u, &[3, 100], Ok(vec![3, 4]));
+    let w = network(&[0, 1, 1, 0], &[10, 1, 1, 8]);
+    audit(tally, &w, &[7, 7, 6], Verdict::Objection(2, vec![0, 1]));
+    limits(tally, &t);
+    report_on(tally, t);
 }
 
-fn limits(tally: &mut Tally) {
-    let refusal = |parents: &[u16], costs: &[u32]| {
-        let (p, c) = (Lent::new(parents), Lent::new(costs));
-        check_tree(p.list(), c.list()).refusal
+fn limits(tally: &mut Tally, t: &Network) {
+    check(tally, &[0], &[1_000_000_000], Ok(()));
+    check(tally, &[0], &[1_000_000_001], refuse(4, 1));
+    check(tally, &[1], &[0], refuse(3, 1));
+    check(tally, &[0; 1_023], &[0; 1_023], Ok(()));
+    check(tally, &[0; 1_024], &[0; 1_024], refuse(1, 0));
+    group(tally, t, 1 << 2, Ok((1, 4)));
+    group(tally, t, 1 << 3, refuse(5, 3));
+}
+
+/// T with no note, caps 100 and the proposal 8 4 4.
+fn report_on(tally: &mut Tally, t: Network) {
+    let job = Job {
+        note: Vec::new(),
+        parents: t.parents,
+        fillers: vec![0; 4],
+        costs: t.costs,
+        caps: vec![100; 3],
+        proposals: vec![8, 4, 4],
     };
-    let zeros = [0; 1_024];
-    let found = [
-        refusal(&[0], &[1_000_000_000]),
-        refusal(&[0], &[1_000_000_001]),
-        refusal(&[1], &[0]),
-        refusal(&[0; 1_023], &zeros[..1_023]),
-        refusal(&[0; 1_024], &zeros),
-        group_answer(&T.0, &T.1, group(4)).0,
-        group_answer(&T.0, &T.1, group(8)).0,
-    ];
-    for (number, expected) in found.into_iter().zip([0, 4, 3, 0, 1, 0, 5]) {
-        tally.case("table", expected, [number, expected], true);
-    }
+    let bytes = job.write();
+    let expected = "cost 16 members 3\naudit group 1 of 1: 0\nlevel ok\n\
+        0 at 2: proposed 8 by-arc 4 level 6\n\
+        1 at 3: proposed 4 by-arc 8 level 6\n\
+        2 at 4: proposed 4 by-arc 4 level 4\n";
+    named(
+        tally,
+        Ok((bytes.len(), report::text(&bytes))),
+        Ok((96, expected.into())),
+    );
+    compare_job::report(tally, &bytes);
 }

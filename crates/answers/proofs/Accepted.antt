@@ -9,7 +9,7 @@ use lib.ListN.{length, getD}
 use lib.Dec.{eqb, ltb, leb}
 use Rattle.game.specs.Tree.{Tree, ofArc}
 use Rattle.game.proofs.Bools.{neither-second}
-use Rattle.answers.specs.Answer.{Check, accepted, refused, fault, _then_, value, answer}
+use Rattle.answers.specs.Answer.{Check, accepted, refused, fault, _then_, value, refusal, answer}
 use Rattle.answers.specs.Checks.{mostArcs, mostCost, arcCheck, arcsCheck, treeCheck, lengthCheck}
 
 not-refused : {number place : ℕ} → refused number place ≡ accepted → ⊥
@@ -107,3 +107,8 @@ length-accepted wanted found e = eqb-true found wanted (not-false (eqb found wan
 pub answered : {A : Type 0} (check : Check) (x v : A) → answer check x ≡ value v → (check ≡ accepted) × (v ≡ x)
 answered accepted x v e = (refl, cc)
 answered (refused number place) x v e = let z : _≡_ {A = ℕ} 0 1 = cc in absurd (omega arith)
+
+-- an answer that is a refusal: the check found it
+pub refused-answer : {A : Type 0} (check : Check) (x : A) {number place : ℕ} → refusal number place ≡ answer check x → check ≡ refused number place
+refused-answer accepted x e = let z : _≡_ {A = ℕ} 0 1 = cc in absurd (omega arith)
+refused-answer (refused number place) x e = cc

@@ -20,8 +20,8 @@ use Rattle.game.proofs.Below.{Rooted}
 use Rattle.game.proofs.Integers.{less-parts, less-le, le-less, sum-pos-ℤ}
 use Rattle.game.proofs.Overpayment.{over-at, members-sum, number-lt}
 use Rattle.game.proofs.Numbering.{vertex-of}
-use Rattle.game.proofs.NaturalShares.{users-by-vertex, natural-core}
-use Rattle.game.proofs.Core.{core-to-bound, bound-to-need, need-to-core, core-nonneg, enough}
+use Rattle.game.proofs.NaturalShares.{natural-core}
+use Rattle.game.proofs.Core.{users-by-vertex, core-to-bound, bound-to-need, need-to-core, core-nonneg, enough}
 use Rattle.game.proofs.Bump.{squares}
 use Rattle.game.proofs.LevelRule.{Reached, Admits, reached-total}
 use Rattle.game.proofs.LevelList.{view, view-off, Stands, level-stands}

@@ -1,13 +1,10 @@
 -- Bounds that hold on every accepted tree.
 use Prim.Native.Nat.{_≤_}
-use mathlib.Core.Bool.{not}
 use native.Mathlib.Omega.{arith}
 use lib.ListN.{length}
-use Rattle.game.specs.Sum.{pick}
 use Rattle.game.specs.Network.{wholeCost, memberCount}
-use Rattle.game.specs.Tree.{Tree, network, ofArc, hasChild}
-use Rattle.game.proofs.Bools.{pick-le}
-use Rattle.game.proofs.Sums.{sum-bound}
+use Rattle.game.specs.Tree.{Tree, network, ofArc}
+use Rattle.game.proofs.Sums.{sum-bound, count-le}
 use Rattle.answers.specs.Checks.{mostCost}
 use Rattle.answers.proofs.Accepted.{Accepted}
 
@@ -17,9 +14,4 @@ module _ (t : Tree) (ok : Accepted t) where
   whole-bound = omega (arith, sum-bound (length (t .parents)) mostCost {f = ofArc (t .costs)} (λ k i. ok .limited k), ok .few)
 
   pub members-bound : memberCount (network t) ≤ 1023
-  members-bound =
-      omega (
-        arith,
-        sum-bound (length (t .parents)) 1 {f = λ v. pick (not (hasChild (t .parents) v)) 1} (λ v i. pick-le (not (hasChild (t .parents) v)) 1),
-        ok .few,
-      )
+  members-bound = omega (arith, count-le (network t .arcs) (network t .member), ok .few)

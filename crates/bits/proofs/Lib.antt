@@ -1,3 +1,3 @@
-pub mod Words
+mod Words
 pub mod Beyond
-pub mod Setting
+mod Setting

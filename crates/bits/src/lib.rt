@@ -1,4 +1,4 @@
-// A group of members as sixteen 64-bit words: its members, a member put in, its size, and the check on what is handed in.
+// A group of members as sixteen 64-bit words: a member put in, its size, and the check on what is handed in.
 
 ghost use mathlib.Core.Path.{_≡_};
 ghost use mathlib.Core.Bool.{_&&_, _||_};
@@ -9,25 +9,6 @@ ghost use Rattle.answers.specs.Checks.{groupCheck};
 ghost use Rattle.checks.specs.Checked.{checkOf};
 ghost use Rattle.bits.specs.Words.{ClearRun};
 use checks::Checked;
-
-// Whether bit i of a word is set.
-pub fn in_word(word: u64, i: usize) -> bool
-    requires { ⌜ i < 64 ⌝ }
-    ensures { λ r. ⌜ r ≡ digit word i ⌝ }
-{
-    word >> i & 1 == 1
-}
-
-// Whether member j is in the group.
-fn has(words: [u64; 16], j: usize) -> bool
-    ensures { λ r. ⌜ r ≡ bit words j ⌝ }
-{
-    if j < 1024 {
-        in_word(words[j / 64], j % 64)
-    } else {
-        false
-    }
-}
 
 // The word with bit i set.
 fn set_in_word(word: u64, i: usize) -> u64
@@ -75,7 +56,7 @@ fn clear_run(words: [u64; 16], j: usize) -> usize
 {
     if words[j / 64] >> (j % 64) == 0 {
         64 - j % 64
-    } else if has(words, j) {
+    } else if numbers::bit_of(words[j / 64], j % 64) {
         0
     } else {
         1

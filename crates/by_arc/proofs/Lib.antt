@@ -1,3 +1,3 @@
-pub mod Climbing
-pub mod Serving
-pub mod Split
+mod Climbing
+mod Serving
+mod Split

@@ -1,5 +1,5 @@
 -- The members served one after the other: each gets what its arcs give, and leaves them one unit less.
-use Prim.Native.Nat.{ℕ, zero, suc, pred, _+_, _-_, _≤_, _<_}
+use Prim.Native.Nat.{ℕ, pred, _+_, _-_, _≤_, _<_}
 use mathlib.Core.Path.{_≡_, refl, ap, _∙_}
 use mathlib.Core.List.{List, []}
 use native.Mathlib.Numerals.{add-one}
@@ -11,14 +11,9 @@ use Rattle.game.specs.Tree.{treeOf, network, ofArc}
 use Rattle.game.specs.Core.{users}
 use Rattle.game.proofs.Sums.{In, sum-cong}
 use Rattle.game.proofs.Sizes.{size-more, size-none}
-use Rattle.game.proofs.Lists.{list-length, list-at, list-is}
-use Rattle.tree.proofs.Filling.{Filling, filling-start, filling-on}
+use Rattle.game.proofs.Lists.{list-length, of-list}
+use Rattle.tree.proofs.Filling.{Filling, filling-start, filling-on, filling-list}
 use Rattle.by_arc.specs.Parts.{Parts, given, sumAbove, oneLess, left, dealt}
-
--- what a list of f's values holds for arc k
-pub of-list : (m : ℕ) (f : ℕ → ℕ) (k : ℕ) → In m k → ofArc (list m f) k ≡ f k
-of-list m f zero i = absurd (omega arith)
-of-list m f (suc u) i = list-at f 0 m u (omega arith)
 
 module _ (ps each more₀ shares₀ : List ℕ) where
   abbrev n : Network
@@ -49,7 +44,7 @@ module _ (ps each more₀ shares₀ : List ℕ) where
       unfolding sumAbove
       serving-on h v own share e {after} f =
           record {
-            kept = ap length f ∙ list-length _ 0 (length ps);
+            kept = ap length f ∙ list-length _ (length ps);
             units = λ k i.
                 omega (
                   arith,
@@ -64,4 +59,4 @@ module _ (ps each more₀ shares₀ : List ℕ) where
           }
 
       pub serving-end : length shares₀ ≤ j → shares ≡ list (length shares₀) (λ i. dealt n each more₀ (pred i))
-      serving-end h = list-is _ 0 _ _ (s .served .kept) (λ u l. s .served .filled u (omega arith))
+      serving-end h = filling-list _ _ (s .served) h _ (λ u. refl)

@@ -12,13 +12,12 @@ use Rattle.game.specs.Group.{size}
 use Rattle.game.specs.Core.{users}
 use Rattle.game.specs.ByArc.{userCount, byArc}
 use Rattle.game.proofs.Sums.{In, sum-cong}
-use Rattle.game.proofs.Lists.{list-length, list-at, list-is}
+use Rattle.game.proofs.Lists.{list-length, list-at, list-is, of-list}
 use Rattle.game.proofs.ByArc.{by-arc-length, by-arc-at}
 use Rattle.answers.proofs.Accepted.{Accepted}
 use Rattle.answers.proofs.ByArcLaws.{some-users}
 use Rattle.by_arc.specs.Parts.{Parts, sumAbove, dealt}
 use Rattle.by_arc.proofs.Climbing.{unit-left}
-use Rattle.by_arc.proofs.Serving.{of-list}
 
 module _ (t : Tree) (ok : Accepted t) where
   abbrev n : Network
@@ -27,7 +26,7 @@ module _ (t : Tree) (ok : Accepted t) where
   module _ {counts : List ℕ} (counted : counts ≡ list (n .arcs) (userCount n)) where
     pub counts-some : (i : ℕ) → i < length counts → 0 < getD counts i 0
     counts-some i h =
-        let within : i < n .arcs = omega (arith, ap length counted, list-length (userCount n) 0 (n .arcs)) in
+        let within : i < n .arcs = omega (arith, ap length counted, list-length (userCount n) (n .arcs)) in
         rw (counted, list-at (userCount n) 0 (n .arcs) i within) (some-users t ok (suc i) (omega arith))
 
     -- a list over the costs and the counts, at arc k
@@ -43,8 +42,8 @@ module _ (t : Tree) (ok : Accepted t) where
       pub split-parts : Parts (n .arcs) each more
       split-parts =
           record {
-            parts = ap length divided ∙ list-length _ 0 (length (t .costs)) ∙ sym (ok .same);
-            units = ap length over ∙ list-length _ 0 (length (t .costs)) ∙ sym (ok .same);
+            parts = ap length divided ∙ list-length _ (length (t .costs)) ∙ sym (ok .same);
+            units = ap length over ∙ list-length _ (length (t .costs)) ∙ sym (ok .same);
             limited = λ k lo hi. omega (arith, by-count (λ a b. a / b) divided k (omega arith), div-le-self (n .cost k) (userCount n k), ok .limited k);
           }
 

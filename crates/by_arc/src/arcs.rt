@@ -10,7 +10,7 @@ ghost use Rattle.game.specs.ByArc.{byArc};
 ghost use Rattle.answers.specs.Answer.{accepted};
 ghost use Rattle.answers.specs.Checks.{treeCheck};
 
-// The last three lists are room for the numbers of users, their parts and the units left over.
+// The last three lists are room for the numbers of users, their parts and the units left over; the shares serve first as room for the counts.
 fn split_in(
     parents: &[u16],
     costs: &[u32],

@@ -1,7 +1,8 @@
 -- The struct of each answer, and the answer that a struct stands for. A refusal of 0 means that there is none.
 use Prim.Native.Nat.{ℕ, zero, suc}
 use mathlib.Core.List.{List}
-use lib.IntN.{pos}
+use lib.ListN.{length}
+use lib.IntN.{ℤ, pos}
 use Rattle.answers.specs.Answer.{Check, accepted, refused, Answer, value, refusal}
 use Rattle.answers.specs.Needs.{NeedsValue}
 use Rattle.answers.specs.GroupCost.{GroupCostValue}
@@ -15,6 +16,7 @@ use Rattle.capi.specs.declared.group.ZilqodurGroup.{ZilqodurGroup}
 use Rattle.capi.specs.declared.verdict.ZilqodurAudit.{ZilqodurAudit}
 use Rattle.capi.specs.declared.split.ZilqodurLevel.{ZilqodurLevel}
 use Rattle.capi.specs.declared.read.ZilqodurJob.{ZilqodurJob}
+use Rattle.capi.specs.declared.report.ZilqodurReport.{ZilqodurReport}
 
 -- the value where the refusal's number is 0
 abbrev pub valueOr : {A : Type 0} → (number place : ℕ) → A → Answer A
@@ -54,11 +56,15 @@ encodeGroup (refusal number place) = record { refusal = number; place = place; s
 abbrev pub decodeGroup : ZilqodurGroup → Answer GroupCostValue
 decodeGroup s = valueOr (s .refusal) (s .place) (record { size = s .size; cost = s .cost })
 
+-- an audit that is not refused
+abbrev pub auditedStruct : (verdict : ℕ) → ℤ → (amount size : ℕ) → List ℕ → ZilqodurAudit
+auditedStruct verdict difference amount size words = record { refusal = 0; place = 0; verdict = verdict; difference = difference; amount = amount; size = size; group = words }
+
 -- the verdict is 0 for pass, 1 for a wrong total, 2 for an objection
 abbrev pub encodeAudit : Answer Verdict → List ℕ → ZilqodurAudit
-encodeAudit (value pass) words = record { refusal = 0; place = 0; verdict = 0; difference = pos 0; amount = 0; size = 0; group = words }
-encodeAudit (value (wrongTotal difference)) words = record { refusal = 0; place = 0; verdict = 1; difference = difference; amount = 0; size = 0; group = words }
-encodeAudit (value (objection amount size)) words = record { refusal = 0; place = 0; verdict = 2; difference = pos 0; amount = amount; size = size; group = words }
+encodeAudit (value pass) words = auditedStruct 0 (pos 0) 0 0 words
+encodeAudit (value (wrongTotal difference)) words = auditedStruct 1 difference 0 0 words
+encodeAudit (value (objection amount size)) words = auditedStruct 2 (pos 0) amount size words
 encodeAudit (refusal number place) words = record { refusal = number; place = place; verdict = 0; difference = pos 0; amount = 0; size = 0; group = words }
 
 abbrev pub verdictOf : ZilqodurAudit → ℕ → Verdict
@@ -87,3 +93,7 @@ encodeJob (refusal number place) = record { refusal = number; place = place; arc
 
 abbrev pub decodeJob : ZilqodurJob → Answer JobValue
 decodeJob s = valueOr (s .refusal) (s .place) (record { arcs = s .arcs; members = s .members; note = s .note })
+
+-- the report's length, and no refusal
+abbrev pub encodeReport : List ℕ → ZilqodurReport
+encodeReport text = record { refusal = 0; place = 0; length = length text }

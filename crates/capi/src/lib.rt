@@ -4,6 +4,7 @@ mod group;
 mod members;
 mod needs;
 mod read;
+mod report;
 mod split;
 mod verdict;
 
@@ -21,6 +22,8 @@ pub use needs::ZilqodurNeeds;
 pub use needs::zilqodur_list_needs;
 pub use read::ZilqodurJob;
 pub use read::zilqodur_read_job;
+pub use report::ZilqodurReport;
+pub use report::zilqodur_report;
 pub use split::ZilqodurLevel;
 pub use split::zilqodur_split_level;
 pub use verdict::ZilqodurAudit;

@@ -4,7 +4,7 @@ ghost use mathlib.Core.Path.{_≡_};
 ghost use Rattle.game.specs.Tree.{treeOf};
 ghost use Rattle.answers.specs.Audit.{auditAnswer, auditWords};
 ghost use Rattle.engine.specs.Outcomes.{auditOf};
-ghost use Rattle.capi.specs.Structs.{encodeAudit, decodeAudit};
+ghost use Rattle.capi.specs.Structs.{auditedStruct, encodeAudit, decodeAudit};
 
 // The verdict is 0 for pass, 1 for a wrong total, 2 for an objection; 0 in a refusal too. The words are 0 except in an objection.
 #[repr(C)]
@@ -18,37 +18,34 @@ pub struct ZilqodurAudit {
     pub group: [u64; 16],
 }
 
+// An audit that is not refused.
+fn audited(
+    verdict: u32,
+    difference: i64,
+    amount: u64,
+    size: usize,
+    group: [u64; 16],
+) -> ZilqodurAudit
+    ensures { λ r. ⌜ r ≡ auditedStruct verdict difference amount size group ⌝ }
+{
+    ZilqodurAudit {
+        refusal: 0,
+        place: 0,
+        verdict,
+        difference,
+        amount,
+        size,
+        group,
+    }
+}
+
 fn encode(found: AuditFound, group: [u64; 16]) -> ZilqodurAudit
     ensures { λ r. ⌜ r ≡ encodeAudit (auditOf found) group ⌝ }
 {
     match found {
-        AuditFound::Pass => ZilqodurAudit {
-            refusal: 0,
-            place: 0,
-            verdict: 0,
-            difference: 0,
-            amount: 0,
-            size: 0,
-            group,
-        },
-        AuditFound::WrongTotal(difference) => ZilqodurAudit {
-            refusal: 0,
-            place: 0,
-            verdict: 1,
-            difference,
-            amount: 0,
-            size: 0,
-            group,
-        },
-        AuditFound::Objection { amount, size } => ZilqodurAudit {
-            refusal: 0,
-            place: 0,
-            verdict: 2,
-            difference: 0,
-            amount,
-            size,
-            group,
-        },
+        AuditFound::Pass => audited(0, 0, 0, 0, group),
+        AuditFound::WrongTotal(difference) => audited(1, difference, 0, 0, group),
+        AuditFound::Objection { amount, size } => audited(2, 0, amount, size, group),
         AuditFound::Refused(r) => ZilqodurAudit {
             refusal: r.number,
             place: r.place,

@@ -2,4 +2,4 @@ pub mod OneToOne
 mod AuditAnswer
 mod NamedSize
 mod Total
-pub mod LevelAnswer
+mod LevelAnswer

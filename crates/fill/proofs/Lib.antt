@@ -1,4 +1,4 @@
-pub mod Listed
-pub mod Turns
-pub mod Bisection
+mod Listed
+mod Turns
+mod Bisection
 pub mod Arc

@@ -11,7 +11,7 @@ use Rattle.game.specs.Sum.{pick}
 use Rattle.game.specs.Network.{Network, memberCount}
 use Rattle.game.specs.Core.{users}
 use Rattle.game.proofs.Bools.{same-test, pick-le, pick-swap}
-use Rattle.game.proofs.Sums.{sum-cong, sum-zero, sum-bound, sum-at}
+use Rattle.game.proofs.Sums.{sum-cong, sum-zero, sum-at, count-le}
 use Rattle.users.specs.Users.{total, Lists}
 
 total-ones : (us : List ℕ) → total (λ u. 1) us ≡ length us
@@ -37,7 +37,7 @@ module _ (n : Network) (k : ℕ) (us : List ℕ) (lists : Lists n k us) where
         arith,
         total-ones us,
         lists .sums (λ u. 1),
-        sum-bound (memberCount n) 1 {f = λ i. pick (users n k (pred i)) 1} (λ i h. pick-le (users n k (pred i)) 1),
+        count-le (memberCount n) (λ i. users n k (pred i)),
       )
 
   -- u + 1 less the number of members is 0 for each member, so for each number in the list

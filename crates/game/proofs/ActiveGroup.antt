@@ -7,17 +7,16 @@ use mathlib.Core.List.{List}
 use native.Mathlib.Omega.{arith}
 use lib.IntN.{ℤ, pos}
 use lib.Signed.{_≤ℤ_}
-use lib.Dec.{eqb}
 use Rattle.game.specs.Sum.{pick, sum}
 use Rattle.game.specs.Network.{Network, groupCost, number, memberCount}
 use Rattle.game.specs.Group.{byNumber}
 use Rattle.game.specs.Proposal.{plus, minus, share, overpayment}
 use Rattle.game.specs.Search.{isIn, named}
-use Rattle.game.proofs.Bools.{both, clash, not-so, same-test, pick-yes, pick-no, pick-zero, pick-pos}
-use Rattle.game.proofs.Sums.{In, sum-cong, sum-zero, some-of}
+use Rattle.game.proofs.Bools.{both, same-test, pick-yes, pick-no, pick-zero, pick-pos}
+use Rattle.game.proofs.Sums.{In, sum-cong, sum-zero}
 use Rattle.game.proofs.Below.{Rooted}
 use Rattle.game.proofs.Certificate.{children, OfMembers}
-use Rattle.game.proofs.Excess.{Excess, Active, MembersEnd, excess-bound, active-exact, active-part, some-excess}
+use Rattle.game.proofs.Excess.{Excess, Active, MembersEnd, no-children, excess-bound, active-exact, active-part, some-excess}
 use Rattle.game.proofs.Integers.{less-parts, less-same, less-is, less-le, le-less, one-part}
 use Rattle.game.proofs.Overpayment.{over-at, under-at, less-over, cost-same}
 use Rattle.game.proofs.Numbering.{vertex-of}
@@ -34,17 +33,11 @@ module _ (n : Network) (rooted : Rooted n) (end : MembersEnd n) (shares : List �
       less-le (overpayment n shares g) (pos (children n f 0)) (less-over n shares g) (less-parts (pos (children n f 0)))
       (omega (arith, excess-bound n rooted (over-at n shares) f act of-members excess active (byNumber n g)))
 
-  -- a member has no child, so its excess is its own
-  no-children : (v : ℕ) → In (n .arcs) v → n .member v ≡ true → children n f v ≡ 0
-  no-children v i m =
-      sum-zero (n .arcs)
-      (λ u j. pick-no (f u) (not-so (eqb (n .parent u) v) (λ t. clash (some-of (n .arcs) u (λ k. eqb (n .parent k) v) j t) (end v m))))
-
-  -- an active member's share is positive
+  -- an active member's excess is its own, so its share is positive
   active-positive : (v : ℕ) → In (n .arcs) v → n .member v ≡ true → act v ≡ true → under-at n shares v ≡ 0
   active-positive v i m a =
       let own = pick-pos (n .member v) (plus (share shares (number n v)))
-      (omega (arith, some-excess n rooted (over-at n shares) f act of-members excess active v i a, excess v i, no-children v i m)) in
+      (omega (arith, some-excess n rooted (over-at n shares) f act of-members excess active v i a, excess v i, no-children n end f v m)) in
       ap (pick (n .member v)) (one-part (share shares (number n v)) (own .1)) ∙ pick-zero (n .member v)
 
   module _ (g : ℕ → Bool) (marks : (v : ℕ) → In (n .arcs) v → n .member v ≡ true → g (number n v) ≡ act v) where

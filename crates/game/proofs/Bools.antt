@@ -31,14 +31,6 @@ pub and-second : (a b : Bool) → (a && b) ≡ true → b ≡ true
 and-second true b e = e
 and-second false b e = absurd (false≢true e)
 
-pub and-true : (b : Bool) → (b && true) ≡ b
-and-true true = refl
-and-true false = refl
-
-pub and-false : (b : Bool) → (b && false) ≡ false
-and-false true = refl
-and-false false = refl
-
 pub or-first : {a : Bool} (b : Bool) → a ≡ true → (a || b) ≡ true
 or-first b e = rw e
 

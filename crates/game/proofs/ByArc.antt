@@ -23,7 +23,7 @@ module _ (n : Network) where
 
   give-length : (k : ℕ) (l : List ℕ) → length (giveArc n k l) ≡ memberCount n
   unfolding giveArc
-  give-length k l = list-length (λ i. getD l (pred i) 0 + gift n k (pred i)) 0 (memberCount n)
+  give-length k l = list-length (λ i. getD l (pred i) 0 + gift n k (pred i)) (memberCount n)
 
   give-at : (k : ℕ) (l : List ℕ) (j : ℕ) → j < memberCount n → getD (giveArc n k l) j 0 ≡ getD l j 0 + gift n k j
   unfolding giveArc

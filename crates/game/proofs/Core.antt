@@ -1,5 +1,5 @@
 -- The core theorem: the lists of the core are those that add up and give every arc's users the source's bound, or the need.
-use Prim.Native.Nat.{ℕ, _+_, _-_, _≤_, _<_}
+use Prim.Native.Nat.{ℕ, pred, _+_, _-_, _≤_, _<_}
 use mathlib.Core.Path.{_≡_, sym, ap, _∙_}
 use mathlib.Core.Bool.{Bool, true, false}
 use mathlib.Core.Logic.{⊎-elim}
@@ -8,24 +8,43 @@ use native.Mathlib.Omega.{arith}
 use lib.Dec.{eqb}
 use lib.IntN.{ℤ, pos}
 use lib.Signed.{_≤ℤ_}
-use Rattle.game.specs.Sum.{pick}
+use Rattle.game.specs.Sum.{pick, sum}
 use Rattle.game.specs.Network.{Network, atOrBelow, groupCost, sumBelow, need, wholeCost, number, memberCount}
 use Rattle.game.specs.Group.{byNumber}
 use Rattle.game.specs.Proposal.{plus, minus, share, pays}
 use Rattle.game.specs.Core.{users, others, bound, AddsUp, Core, CoreByBound, CoreByNeed}
-use Rattle.game.proofs.Bools.{both, clash, not-so, pick-yes, pick-no, pick-zero, pick-add}
-use Rattle.game.proofs.Sums.{In, some-of, sum-cong, sum-add, sum-zero, sum-parts}
+use Rattle.game.proofs.Bools.{both, pick-yes, pick-no, pick-zero, pick-add}
+use Rattle.game.proofs.Sums.{In, sum-cong, sum-add, sum-zero, sum-parts}
 use Rattle.game.proofs.Below.{Rooted, sum-below-children, sum-from-source}
 use Rattle.game.proofs.Certificate.{children, OfMembers, certificate}
-use Rattle.game.proofs.Excess.{MembersEnd}
+use Rattle.game.proofs.Excess.{MembersEnd, no-children}
 use Rattle.game.proofs.Numbering.{vertex-of}
 use Rattle.game.proofs.Integers.{less-parts, less-le, le-less, less-is, le-trans-ℤ, no-minus}
-use Rattle.game.proofs.Overpayment.{over-at, under-at, group-sum, less-pays}
+use Rattle.game.proofs.Overpayment.{over-at, under-at, group-sum, by-vertex, less-pays}
 use Rattle.game.proofs.Bounds.{users-at, less-bound, need-le-bound}
+
+module _ (n : Network) where
+  -- what an arc's users have of a weight of the members: its sum at or below the arc
+  users-sum : (x : ℕ → ℕ) → OfMembers n x → (k : ℕ) → group-sum n x (users n k) ≡ sumBelow n x k
+  unfolding sumBelow
+  users-sum x of-members k =
+      sum-cong (n .arcs)
+      (λ v i.
+      ⊎-elim
+      (λ (m : n .member v ≡ true). ap (λ (b : Bool). pick b (x v)) (users-at n k v i m))
+      (λ (m : n .member v ≡ false).
+      let e = of-members v i m in
+      ap (pick (users n k (number n v))) e ∙ pick-zero (users n k (number n v)) ∙ sym (ap (pick (atOrBelow n k v)) e ∙ pick-zero (atOrBelow n k v)))
+      (both (n .member v)))
+
+  -- a sum over an arc's users, by member number and by vertex
+  pub users-by-vertex : (x : ℕ → ℕ) (k : ℕ)
+      → sum (memberCount n) (λ i. pick (users n k (pred i)) (x (pred i))) ≡ sumBelow n (λ v. pick (n .member v) (x (number n v))) k
+  users-by-vertex x k = by-vertex n (users n k) x ∙ users-sum (λ v. pick (n .member v) (x (number n v))) (λ v i m. pick-no (x (number n v)) m) k
 
 module _ (n : Network) (shares : List ℤ) where
   pays-whole : AddsUp n shares
-      → group-sum n shares (over-at n shares) (λ j. true) ≡ wholeCost n + group-sum n shares (under-at n shares) (λ j. true)
+      → group-sum n (over-at n shares) (λ j. true) ≡ wholeCost n + group-sum n (under-at n shares) (λ j. true)
   pays-whole adds = omega (arith, less-is (less-pays n shares (λ j. true)) (less-parts (pos (wholeCost n))) adds)
 
   -- an arc's users pay what the others leave of the whole cost
@@ -44,27 +63,14 @@ module _ (n : Network) (shares : List ℤ) where
             sum-parts (n .arcs) (byNumber n (users n k)) (under-at n shares),
           ))
 
-  -- what an arc's users have of a weight of the members: its sum at or below the arc
-  pub users-sum : (x : ℕ → ℕ) → OfMembers n x → (k : ℕ) → group-sum n shares x (users n k) ≡ sumBelow n x k
-  unfolding sumBelow
-  users-sum x of-members k =
-      sum-cong (n .arcs)
-      (λ v i.
-      ⊎-elim
-      (λ (m : n .member v ≡ true). ap (λ (b : Bool). pick b (x v)) (users-at n k v i m))
-      (λ (m : n .member v ≡ false).
-      let e = of-members v i m in
-      ap (pick (users n k (number n v))) e ∙ pick-zero (users n k (number n v)) ∙ sym (ap (pick (atOrBelow n k v)) e ∙ pick-zero (atOrBelow n k v)))
-      (both (n .member v)))
-
   -- the sums at or below an arc are the need and more, by the parts of the shares
   need-parts : CoreByNeed n shares → (k : ℕ) → In (n .arcs) k → need n k + sumBelow n (under-at n shares) k ≤ sumBelow n (over-at n shares) k
   need-parts core k i =
       omega (
         arith,
         le-less (pos (need n k)) (pays n shares (users n k)) (less-parts (pos (need n k))) (less-pays n shares (users n k)) (core .users-enough k (omega arith)),
-        users-sum (over-at n shares) (λ v j m. pick-no (plus (share shares (number n v))) m) k,
-        users-sum (under-at n shares) (λ v j m. pick-no (minus (share shares (number n v))) m) k,
+        users-sum n (over-at n shares) (λ v j m. pick-no (plus (share shares (number n v))) m) k,
+        users-sum n (under-at n shares) (λ v j m. pick-no (minus (share shares (number n v))) m) k,
       )
 
 module _ (n : Network) (rooted : Rooted n) (shares : List ℤ) where
@@ -73,14 +79,8 @@ module _ (n : Network) (rooted : Rooted n) (shares : List ℤ) where
       record { adds-up = core .adds-up; users-enough = λ k i. le-trans-ℤ (need-le-bound n rooted k) (core .users-enough k i) }
 
 -- at a member's own arc the sum is the member's alone
-own-sum : (n : Network) → Rooted n → MembersEnd n → (x : ℕ → ℕ) (v : ℕ) → In (n .arcs) v → n .member v ≡ true → sumBelow n x v ≡ x v
-own-sum n rooted end x v i m =
-    omega (
-      arith,
-      sum-below-children n rooted x v i,
-      sum-zero (n .arcs) {f = λ u. pick (eqb (n .parent u) v) (sumBelow n x u)}
-          (λ u j. pick-no (sumBelow n x u) (not-so (eqb (n .parent u) v) (λ e. clash (some-of (n .arcs) u (λ w. eqb (n .parent w) v) j e) (end v m)))),
-    )
+pub own-sum : (n : Network) → Rooted n → MembersEnd n → (x : ℕ → ℕ) (v : ℕ) → In (n .arcs) v → n .member v ≡ true → sumBelow n x v ≡ x v
+own-sum n rooted end x v i m = omega (arith, sum-below-children n rooted x v i, no-children n end (sumBelow n x) v m)
 
 module _ (n : Network) (rooted : Rooted n) (end : MembersEnd n) (shares : List ℤ) where
   -- so no member's share is negative
@@ -131,7 +131,7 @@ module _ (n : Network) (rooted : Rooted n) (end : MembersEnd n) (shares : List �
           sum-below-children n rooted (n .cost) v i,
         )
 
-    none-under : (g : ℕ → Bool) → group-sum n shares (under-at n shares) g ≡ 0
+    none-under : (g : ℕ → Bool) → group-sum n (under-at n shares) g ≡ 0
     none-under g = sum-zero (n .arcs) (λ v i. ap (pick (g (number n v))) (none v i) ∙ pick-zero (g (number n v)))
       where
         none : (v : ℕ) → In (n .arcs) v → under-at n shares v ≡ 0

@@ -82,7 +82,7 @@ bit-at words i j h =
     rw (q, r)
 
 -- a bit past the last word
-pub bit-past : (words : List ℕ) (j : ℕ) → length words ≤ j / 64 → bit words j ≡ false
+bit-past : (words : List ℕ) (j : ℕ) → length words ≤ j / 64 → bit words j ≡ false
 unfolding bit
 bit-past words j h = rw (List·getD-eq-default words 0 h, zero-div)
 

@@ -10,8 +10,8 @@ use borrow.Author.Tests.{eqb-true, eqb-false, ltb-true, lt-ltb}
 use lib.Dec.{eqb, ltb}
 use Rattle.game.specs.Sum.{pick, sum, some}
 use Rattle.game.specs.Network.{Network, atOrBelow, used, groupCost}
-use Rattle.game.proofs.Bools.{both, clash, same-test, and-both, and-first, and-second, or-first, or-second, or-cases, pick-yes, pick-no, pick-add, pick-zero, pick-pos}
-use Rattle.game.proofs.Sums.{In, sum-cong, sum-add, term-le, sum-pos}
+use Rattle.game.proofs.Bools.{both, clash, not-so, same-test, and-both, and-first, and-second, or-first, or-second, or-cases, pick-yes, pick-no, pick-add, pick-zero, pick-pos}
+use Rattle.game.proofs.Sums.{In, sum-cong, sum-add, sum-zero, term-le, sum-pos, some-of}
 use Rattle.game.proofs.Below.{Rooted, from-source, below-self, below-cases, below-source, below-le, child-after}
 use Rattle.game.proofs.Groups.{used-of, used-by, used-child}
 use Rattle.game.proofs.Users.{users-of-end}
@@ -28,6 +28,12 @@ Active n f act = (v : ℕ) → In (n .arcs) v → act v ≡ (ltb 0 (f v) && top 
 -- no member has a child
 abbrev pub MembersEnd : Network → Type 0
 MembersEnd n = (v : ℕ) → n .member v ≡ true → some (n .arcs) (λ u. eqb (n .parent u) v) ≡ false
+
+-- so the arcs from it have nothing
+pub no-children : (n : Network) → MembersEnd n → (g : ℕ → ℕ) (v : ℕ) → n .member v ≡ true → children n g v ≡ 0
+no-children n end g v m =
+    sum-zero (n .arcs)
+    (λ u i. pick-no (g u) (not-so (eqb (n .parent u) v) (λ e. clash (some-of (n .arcs) u (λ w. eqb (n .parent w) v) i e) (end v m))))
 
 module _ (n : Network) (rooted : Rooted n) (w f : ℕ → ℕ) (act : ℕ → Bool) (of-members : OfMembers n w) (excess : Excess n w f) (active : Active n f act) where
   bounded : (v : ℕ) → In (n .arcs) v → w v + children n f v ≤ n .cost v + f v

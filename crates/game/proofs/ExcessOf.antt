@@ -3,7 +3,6 @@ use Prim.Native.Nat.{ℕ, zero, suc, _+_, _-_, _≤_, _<_}
 use mathlib.Core.Path.{_≡_, sym, ap, _∙_}
 use mathlib.Core.Bool.{true, false}
 use mathlib.Core.Logic.{⊎-elim}
-use native.Mathlib.Decide.{ℕ-discrete}
 use native.Mathlib.Omega.{arith}
 use borrow.Author.Tests.{eqb-true}
 use lib.Dec.{eqb}
@@ -11,8 +10,8 @@ use Rattle.game.specs.Sum.{pick, sum}
 use Rattle.game.specs.Network.{Network, sumBelow}
 use Rattle.game.proofs.Bools.{both, pick-no, pick-both-le}
 use Rattle.game.proofs.Sums.{In, sum-cong, sum-mono}
-use Rattle.game.proofs.Below.{Rooted, child-after, sum-below-children, sum-from-source}
-use Rattle.game.proofs.Needs.{sum-below-le}
+use Rattle.game.proofs.Below.{Rooted, child-after, sum-below-children}
+use Rattle.game.proofs.SumBounds.{children-le}
 use Rattle.game.proofs.Certificate.{children}
 use Rattle.game.proofs.Excess.{Excess}
 
@@ -68,11 +67,7 @@ module _ (n : Network) (rooted : Rooted n) (w : ℕ → ℕ) where
 
     -- what the children of a vertex exceed by is at most all weights
     pub excess-le : (v : ℕ) → v ≤ n .arcs → children n f v ≤ sum (n .arcs) w
-    excess-le v h =
-        elim (ℕ-discrete v 0) [
-          | yes e ↦ rw e (omega (arith, at-most 0, sum-from-source n rooted w))
-          | no e ↦ omega (arith, at-most v, sum-below-children n rooted w v (omega arith), sum-below-le n w v)
-        ]
+    excess-le v h = omega (arith, at-most v, children-le n rooted w v h)
       where
         at-most : (v : ℕ) → children n f v ≤ children n (sumBelow n w) v
         at-most v = sum-mono (n .arcs) (λ u j. pick-both-le (eqb (n .parent u) v) (below-weights (suc (n .arcs)) u j (omega arith)))

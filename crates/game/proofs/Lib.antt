@@ -1,7 +1,7 @@
 pub mod Bools
 pub mod Sums
 pub mod Below
-pub mod Needs
+pub mod SumBounds
 pub mod Groups
 pub mod Users
 pub mod DeadEnds
@@ -19,8 +19,8 @@ pub mod ExcessOf
 pub mod Bounds
 pub mod Core
 pub mod Bump
-pub mod Smallest
-pub mod Descent
+mod Smallest
+mod Descent
 pub mod LevelRule
 pub mod LevelList
 pub mod Raise

@@ -1,24 +1,16 @@
--- Lists without negative shares: what a group pays, and when they are in the core; sums over an arc's users by vertex.
+-- Lists without negative shares: what a group pays, and when they are in the core.
 use Prim.Native.Nat.{ℕ, pred, _≤_}
 use mathlib.Core.Path.{_≡_, refl, ap, _∙_}
 use mathlib.Core.Bool.{Bool, true, false}
-use mathlib.Core.List.{List, [], map}
+use mathlib.Core.List.{List, map}
 use native.Mathlib.Omega.{arith}
 use lib.ListN.{getD, List·getD-map}
 use lib.IntN.{pos}
 use Rattle.game.specs.Sum.{pick, sum}
-use Rattle.game.specs.Network.{Network, memberCount, number, sumBelow, need, wholeCost}
+use Rattle.game.specs.Network.{Network, memberCount, need, wholeCost}
 use Rattle.game.specs.Proposal.{pickℤ, share, pays}
 use Rattle.game.specs.Core.{users, IsArc, CoreByNeed}
-use Rattle.game.proofs.Bools.{pick-no}
 use Rattle.game.proofs.Integers.{less-parts, less-le, sum-pos-ℤ}
-use Rattle.game.proofs.Overpayment.{by-vertex}
-use Rattle.game.proofs.Core.{users-sum}
-
--- over an arc's users, by member number and by vertex
-pub users-by-vertex : (n : Network) (x : ℕ → ℕ) (k : ℕ)
-    → sum (memberCount n) (λ i. pick (users n k (pred i)) (x (pred i))) ≡ sumBelow n (λ v. pick (n .member v) (x (number n v))) k
-users-by-vertex n x k = by-vertex n [] (users n k) x ∙ users-sum n [] (λ v. pick (n .member v) (x (number n v))) (λ v i m. pick-no (x (number n v)) m) k
 
 pick-pos-ℤ : (b : Bool) (x : ℕ) → pickℤ b (pos x) ≡ pos (pick b x)
 pick-pos-ℤ true x = refl

@@ -84,6 +84,15 @@ module _ (n : Network) where
       both-parts true b x = refl
       both-parts false b x = omega arith
 
+  -- what a group has of a weight of the vertices
+  abbrev pub group-sum : (ℕ → ℕ) → (ℕ → Bool) → ℕ
+  group-sum x g = sum (n .arcs) (λ v. pick (byNumber n g v) (x v))
+
+  pub by-vertex : (g : ℕ → Bool) (x : ℕ → ℕ)
+      → sum (memberCount n) (λ i. pick (g (pred i)) (x (pred i))) ≡ group-sum (λ v. pick (n .member v) (x (number n v))) g
+  by-vertex g x =
+      members-sum (n .arcs) (n .member) (λ j. pick (g j) (x j)) ∙ sum-cong (n .arcs) (λ v i. pick-swap (n .member v) (g (number n v)) (x (number n v)))
+
   module _ (shares : List ℤ) where
     -- the positive and the negative part of a member's share, at its vertex; 0 elsewhere
     abbrev pub over-at : ℕ → ℕ
@@ -91,15 +100,6 @@ module _ (n : Network) where
 
     abbrev pub under-at : ℕ → ℕ
     under-at v = pick (n .member v) (minus (share shares (number n v)))
-
-    -- the sum of a part over a group
-    abbrev pub group-sum : (ℕ → ℕ) → (ℕ → Bool) → ℕ
-    group-sum x g = sum (n .arcs) (λ v. pick (byNumber n g v) (x v))
-
-    pub by-vertex : (g : ℕ → Bool) (x : ℕ → ℕ)
-        → sum (memberCount n) (λ i. pick (g (pred i)) (x (pred i))) ≡ group-sum (λ v. pick (n .member v) (x (number n v))) g
-    by-vertex g x =
-        members-sum (n .arcs) (n .member) (λ j. pick (g j) (x j)) ∙ sum-cong (n .arcs) (λ v i. pick-swap (n .member v) (g (number n v)) (x (number n v)))
 
     pub less-pays : (g : ℕ → Bool) → Less (pays n shares g) (group-sum over-at g) (group-sum under-at g)
     unfolding pays

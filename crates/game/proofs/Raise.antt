@@ -41,7 +41,7 @@ module _ (n : Network) (caps : List ℕ) (k : ℕ) (l : List ℕ) where
         | no h ↦ ap (λ b. pick (users n k j) (smaller (getD caps j 0) (level + pick b 1) - getD l j 0)) (le-ltb j (suc q) (omega arith) ∙ sym (le-ltb j q (omega arith)))
       ]
 
-  -- what a user has where it was raised, to its own level
+  -- what a user takes on the way to its own level, or to its cap
   rise-user : (level q j : ℕ) → users n k j ≡ true → rise n caps k l level q j ≡ (getD caps j 0 - (getD caps j 0 - (level + pick (ltb j q) 1))) - getD l j 0
   rise-user level q j u =
       pick-yes (smaller (getD caps j 0) (level + pick (ltb j q) 1) - getD l j 0) u
@@ -63,15 +63,15 @@ module _ (n : Network) (caps : List ℕ) (k : ℕ) (l : List ℕ) where
 
   module _ (level q : ℕ) where
     -- number q is served on the way from a level to the next
-    pub record Served : Type 0 where
-      pub is-member : q < memberCount n
-      pub is-user : users n k q ≡ true
-      pub reached : getD l q 0 ≤ level
-      pub room : level < getD caps q 0
+    record Served : Type 0 where
+      is-member : q < memberCount n
+      is-user : users n k q ≡ true
+      reached : getD l q 0 ≤ level
+      room : level < getD caps q 0
 
     -- no member's part changes
-    pub record Unserved : Type 0 where
-      pub same : (j : ℕ) → j < memberCount n → rise n caps k l level (suc q) j ≡ rise n caps k l level q j
+    record Unserved : Type 0 where
+      same : (j : ℕ) → j < memberCount n → rise n caps k l level (suc q) j ≡ rise n caps k l level q j
 
     -- it is enough that q's does not
     unserved : rise n caps k l level (suc q) q ≡ rise n caps k l level q q → Unserved

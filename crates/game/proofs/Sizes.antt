@@ -1,5 +1,5 @@
 -- The size of a group: one number more, at most the range, a range in two parts, from the first number on, equal by points.
-use Prim.Native.Nat.{ℕ, zero, suc, _+_, _<_, _≤_}
+use Prim.Native.Nat.{ℕ, zero, suc, pred, _+_, _<_, _≤_}
 use mathlib.Core.Path.{_≡_, refl, sym, ap, ap₂, _∙_}
 use mathlib.Core.Bool.{Bool, true, false}
 use native.Mathlib.Nat.{add-zero, add-suc}
@@ -9,7 +9,8 @@ use native.Mathlib.Numerals.{one-add}
 use native.Mathlib.Omega.{arith}
 use Rattle.game.specs.Sum.{pick}
 use Rattle.game.specs.Group.{size}
-use Rattle.game.proofs.Bools.{both, pick-le, pick-mono, pick-yes, pick-no}
+use Rattle.game.proofs.Bools.{both, pick-mono, pick-yes, pick-no}
+use Rattle.game.proofs.Sums.{count-le}
 
 pub size-more : (n : ℕ) (g : ℕ → Bool) → size (suc n) g ≡ size n g + pick (g n) 1
 unfolding size
@@ -17,8 +18,7 @@ size-more n g = refl
 
 pub size-le : (n : ℕ) (g : ℕ → Bool) → size n g ≤ n
 unfolding size
-size-le zero g = omega arith
-size-le (suc n) g = omega (arith, size-le n g, pick-le (g n) 1)
+size-le n g = count-le n (λ i. g (pred i))
 
 pub size-split : (n m : ℕ) (g : ℕ → Bool) → size (n + m) g ≡ size n g + size m (λ i. g (n + i))
 unfolding size

@@ -9,7 +9,7 @@ use native.Mathlib.Omega.{arith}
 use borrow.Author.Tests.{eq-eqb, ne-eqb, lt-ltb}
 use lib.Dec.{eqb, ltb}
 use Rattle.game.specs.Sum.{pick, sum, count, some}
-use Rattle.game.proofs.Bools.{pick-zero, pick-add, pick-parts, pick-yes, pick-no, or-first, or-second, or-cases}
+use Rattle.game.proofs.Bools.{pick-zero, pick-add, pick-parts, pick-yes, pick-no, pick-le, or-first, or-second, or-cases}
 
 -- k is one of 1 to m
 pub record In (m k : ℕ) : Type 0 where
@@ -90,6 +90,10 @@ term-le (suc m) k f i = in-cases m k i (λ j. omega (arith, term-le m k f j)) (�
 pub sum-bound : (m b : ℕ) {f : ℕ → ℕ} → ((k : ℕ) → In m k → f k ≤ b) → sum m f ≤ m * b
 sum-bound zero b h = zero-le
 sum-bound (suc m) b {f} h = rw suc-mul (omega (arith, sum-bound m b {f = f} (λ k i. h k (in-more i)), h (suc m) (in-last m)))
+
+pub count-le : (m : ℕ) (b : ℕ → Bool) → count m b ≤ m
+count-le zero b = le-refl 0
+count-le (suc m) b = omega (arith, count-le m b, pick-le (b (suc m)) 1)
 
 -- a longer sum
 pub sum-longer : (a b : ℕ) (f : ℕ → ℕ) → a ≤ b → sum a f ≤ sum b f

@@ -14,7 +14,7 @@ use Rattle.job.specs.Laws.{Usable, ReadUsable, Determined}
 use Rattle.job.proofs.Accepted.{job-accepted}
 
 -- the lists after a job was read
-pub filled : (bytes : List ℕ) (l : Lent) → readCheck bytes l ≡ accepted
+filled : (bytes : List ℕ) (l : Lent) → readCheck bytes l ≡ accepted
     → jobLists bytes l
     ≡ lent (jobParents bytes ++ drop (jobArcs bytes) (l .parents)) (jobCosts bytes ++ drop (jobArcs bytes) (l .costs))
     (jobCaps bytes ++ drop (jobMembers bytes) (l .caps)) (jobProposals bytes ++ drop (jobMembers bytes) (l .proposals))

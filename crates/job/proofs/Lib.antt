@@ -1,6 +1,6 @@
 pub mod OneToOne
 mod Counted
-pub mod Accepted
+mod Accepted
 mod Answered
 pub mod Laws
 pub mod Table

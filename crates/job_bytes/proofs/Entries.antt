@@ -2,18 +2,17 @@
 use Prim.Native.Nat.{ℕ, suc, pred, _+_, _-_, _<_, _≤_}
 use mathlib.Core.Path.{_≡_, refl, sym, ap, _∙_}
 use mathlib.Core.List.{List, _++_}
-use native.Mathlib.Nat.{sub-zero}
 use native.Mathlib.Numerals.{add-one}
 use native.Mathlib.Omega.{arith}
 use lib.ListN.{length, getD, set, take, drop, length-set}
-use lib.Seq.{drop-cons, set-at, take-at, append-snoc}
-use Rattle.game.proofs.Lists.{list-length}
+use lib.Seq.{drop-cons, set-at, append-snoc}
+use Rattle.game.proofs.Lists.{list-length, list-front, list-part}
 use Rattle.job_bytes.specs.Numbers.{entries}
 
 module _ {A : Type 0} where
   pub length-entries : (n : ℕ) (f : ℕ → A) → length (entries n f) ≡ n
   unfolding entries
-  length-entries n f = list-length (λ u. f (pred u)) (f 0) n
+  length-entries n f = list-length (λ u. f (pred u)) n
 
   -- one entry more
   entries-on : (i : ℕ) (f : ℕ → A) (l : List A) (v : A) → i < length l → v ≡ f i → set (entries i f ++ drop i l) i v ≡ entries (i + 1) f ++ drop (i + 1) l
@@ -47,7 +46,9 @@ module _ {A : Type 0} where
 
   -- the front of a list that starts with n entries of f, and as a part that the code takes
   pub front : (n : ℕ) (f : ℕ → A) (rest : List A) → take n (entries n f ++ rest) ≡ entries n f
-  front n f rest = take-at (entries n f) rest n (length-entries n f)
+  unfolding entries
+  front n f rest = list-front (λ u. f (pred u)) n rest
 
   pub front-taken : (n : ℕ) (f : ℕ → A) (rest : List A) {list : List A} → list ≡ entries n f ++ rest → take (n - 0) list ≡ entries n f
-  front-taken n f rest e = rw (sub-zero, e) (front n f rest)
+  unfolding entries
+  front-taken n f rest e = list-part (λ u. f (pred u)) n rest e

@@ -1,3 +1,3 @@
-pub mod Shortage
-pub mod Splitting
+mod Shortage
+mod Splitting
 pub mod CapsAccepted

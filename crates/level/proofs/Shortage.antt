@@ -1,5 +1,5 @@
 -- The arcs from the last down, over the lists of needs and cap sums.
-use Prim.Native.Nat.{ℕ, zero, suc, _-_, _≤_, _<_}
+use Prim.Native.Nat.{ℕ, zero, suc, _-_, _≤_}
 use mathlib.Core.Path.{_≡_, refl, sym, ap, ap₂, _∙_}
 use mathlib.Core.Bool.{true, false}
 use mathlib.Core.Logic.{⊎-elim}
@@ -36,19 +36,13 @@ module _ (members : ℕ) (needs sums : List ℕ) where
 
 -- over the needs and cap sums of a network
 module _ (n : Network) (caps : List ℕ) (m : ℕ) where
-  needs-at : (k : ℕ) → k < m → getD (list m (need n)) k 0 ≡ need n (suc k)
-  needs-at k h = list-at (need n) 0 m k h
-
-  sums-at : (k : ℕ) → k < m → getD (list m (capSum n caps)) k 0 ≡ capSum n caps (suc k)
-  sums-at k h = list-at (capSum n caps) 0 m k h
-
   short-arcs : (k : ℕ) → k ≤ m → shortFrom (memberCount n) (list m (need n)) (list m (capSum n caps)) k ≡ splitOr9 n caps (shortArc n caps k)
   unfolding shortFrom shortArc
   short-arcs zero h = refl
   short-arcs (suc k) h =
       ⊎-elim
-      (λ (e : ltb (capSum n caps (suc k)) (need n (suc k)) ≡ true). rw (needs-at k (omega arith), sums-at k (omega arith), e))
-      (λ (e : ltb (capSum n caps (suc k)) (need n (suc k)) ≡ false). rw (needs-at k (omega arith), sums-at k (omega arith), e) (short-arcs k (omega arith)))
+      (λ (e : ltb (capSum n caps (suc k)) (need n (suc k)) ≡ true). rw (list-at (need n) 0 m k (omega arith), list-at (capSum n caps) 0 m k (omega arith), e))
+      (λ (e : ltb (capSum n caps (suc k)) (need n (suc k)) ≡ false). rw (list-at (need n) 0 m k (omega arith), list-at (capSum n caps) 0 m k (omega arith), e) (short-arcs k (omega arith)))
       (both (ltb (capSum n caps (suc k)) (need n (suc k))))
 
 -- costs do not decide what the caps add up to

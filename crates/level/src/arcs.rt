@@ -37,7 +37,7 @@ fn give_out(
     }
 }
 
-// The three lists are room for the layout.
+// The three lists before the shares are room for the layout; the shares serve first as room for the counts.
 fn split_laid_out(
     parents: &[u16],
     costs: &[u32],

@@ -1,14 +1,15 @@
-// Small choices between numbers, so that the loops that use them have no branch, and signed numbers by their parts and bits.
+// Small choices between numbers, so that the loops that use them have no branch, a bit of a word, and signed numbers by their parts and bits.
 mod signed;
 
 pub use signed::minus;
 pub use signed::of_bits;
 pub use signed::plus;
 ghost use mathlib.Core.Path.{_≡_};
-ghost use Prim.Native.Nat.{_-_, _≤_};
+ghost use Prim.Native.Nat.{_-_, _<_, _≤_};
 ghost use lib.Dec.{ltb};
 ghost use Rattle.game.specs.Sum.{pick};
 ghost use Rattle.game.specs.Raise.{smaller};
+ghost use Rattle.game.specs.Group.{digit};
 
 // a less b, 0 where b is greater.
 pub fn above(a: u64, b: u64) -> u64
@@ -23,17 +24,18 @@ pub fn smaller_of(a: u64, b: u64) -> u64
     if a < b { a } else { b }
 }
 
-// 1 where the test holds, else 0.
-pub fn one_if(b: bool) -> usize
-    ensures { λ r. ⌜ r ≡ pick b 1 ⌝ }
-{
-    if b { 1 } else { 0 }
-}
-
 // 1 where a is below b, else 0.
 pub fn one_if_below(a: u64, b: u64) -> u64
     ensures { λ r. ⌜ r ≡ pick (ltb a b) 1 ⌝ }
     ensures { λ r. ⌜ r ≤ 1 ⌝ }
 {
     if a < b { 1 } else { 0 }
+}
+
+// Whether bit i of a word is set.
+pub fn bit_of(word: u64, i: usize) -> bool
+    requires { ⌜ i < 64 ⌝ }
+    ensures { λ r. ⌜ r ≡ digit word i ⌝ }
+{
+    word >> i & 1 == 1
 }

@@ -17,7 +17,7 @@ fn put_if(out: &mut [u8], at: usize, word: u64, j: usize) -> usize
     ensures { λ r. ⌜ Put (now (out .entry)) at (cond (digit word (j % 64)) (labelled " " j) []) (now (out .exit)) r ⌝ }
     ensures { λ r. ⌜ r ≤ at + 21 ⌝ }
 {
-    if word >> (j % 64) & 1 == 1 {
+    if numbers::bit_of(word, j % 64) {
         text::put_labelled(out, at, b" ", j as u64)
     } else {
         at

@@ -3,19 +3,25 @@ use Prim.Native.Nat.{ℕ, _-_, _≤_}
 use mathlib.Core.Path.{_≡_, sym, _∙_}
 use mathlib.Core.List.{List}
 use native.Mathlib.Omega.{arith}
-use native.Mathlib.Nat.{sub-zero}
 use borrow.Author.Tests.{eq-eqb}
-use lib.ListN.{length, take, replicate, length-take, length-replicate, getD-replicate}
+use lib.ListN.{length, take, replicate, length-replicate, getD-replicate}
 use lib.Seq.{getD-take, ext-getD}
 use Rattle.game.specs.Network.{wholeCost, memberCount, members}
 use Rattle.game.specs.Tree.{Tree, network}
+use Rattle.game.proofs.Lists.{zeros-length}
 use Rattle.answers.specs.Answer.{accepted, value}
 use Rattle.answers.specs.Checks.{treeCheck, lengthCheck}
 use Rattle.answers.specs.Members.{membersList}
 use Rattle.answers.specs.Needs.{needsAnswer}
+use Rattle.answers.proofs.Accepted.{tree-accepted}
+use Rattle.answers.proofs.Limits.{members-bound}
 
 exact : (wanted found : ℕ) → found ≡ wanted → lengthCheck wanted found ≡ accepted
 exact wanted found e = rw (eq-eqb found wanted e)
+
+-- a list with an entry a member is within 1,023
+pub few-members : (t : Tree) (n : ℕ) → treeCheck t ≡ accepted → n ≡ memberCount (network t) → n ≤ 1023
+few-members t n tree e = rw e (members-bound t (tree-accepted t tree))
 
 module _ (t : Tree) (tree : treeCheck t ≡ accepted) (out : List ℕ) where
   pub needs-found : length out ≡ length (t .parents) → needsAnswer t out ≡ value (record { whole = wholeCost (network t); members = memberCount (network t) })
@@ -29,13 +35,9 @@ module _ (t : Tree) (tree : treeCheck t ≡ accepted) (out : List ℕ) where
 -- the front of an array of zeros
 pub zeros : (n : ℕ) → n ≤ 1023 → take {A = ℕ} (n - 0) (replicate 1023 0) ≡ replicate n 0
 zeros n h =
-    rw sub-zero
-    (ext-getD {A = ℕ} 0 (take n (replicate 1023 0)) (replicate n 0)
-    (omega (arith, sized, length-replicate {A = ℕ} n 0))
+    ext-getD {A = ℕ} 0 (take (n - 0) (replicate 1023 0)) (replicate n 0)
+    (zeros-length n h ∙ sym (length-replicate n 0))
     (λ i l.
-    getD-take {A = ℕ} n (replicate 1023 0) i 0 (omega (arith, sized))
-    ∙ getD-replicate {A = ℕ} 1023 i 0 0 (omega (arith, sized))
-    ∙ sym (getD-replicate {A = ℕ} n i 0 0 (omega (arith, sized)))))
-  where
-    sized : length {A = ℕ} (take n (replicate 1023 0)) ≡ n
-    sized = omega (arith, length-take {A = ℕ} n (replicate 1023 0), length-replicate {A = ℕ} 1023 0)
+    getD-take {A = ℕ} (n - 0) (replicate 1023 0) i 0 (omega (arith, zeros-length n h))
+    ∙ getD-replicate {A = ℕ} 1023 i 0 0 (omega (arith, zeros-length n h))
+    ∙ sym (getD-replicate {A = ℕ} n i 0 0 (omega (arith, zeros-length n h))))

@@ -5,12 +5,13 @@ use mathlib.Core.List.{List, _++_}
 use native.Mathlib.Omega.{arith}
 use native.Mathlib.Nat.{sub-zero}
 use lib.ListN.{length, take, length-append}
-use lib.Seq.{take-at, length-take-le}
+use lib.Seq.{length-take-le}
 use Rattle.game.specs.Network.{memberCount}
-use Rattle.game.proofs.Lists.{list-length}
+use Rattle.game.proofs.Lists.{list-length, list-part}
 use Rattle.game.specs.Tree.{treeOf, network}
-use Rattle.answers.specs.Answer.{Check, accepted, refused, Answer, value, refusal, answer, written}
+use Rattle.answers.specs.Answer.{Check, accepted, value, refusal, written}
 use Rattle.answers.specs.Checks.{treeCheck}
+use Rattle.answers.proofs.Accepted.{answered, refused-answer}
 use Rattle.job_bytes.specs.Numbers.{entries}
 use Rattle.job_bytes.specs.Format.{jobParents, jobCosts, jobCaps, jobProposals}
 use Rattle.job.specs.JobCheck.{jobCheck}
@@ -19,19 +20,6 @@ use Rattle.job.specs.Laws.{Usable}
 use Rattle.job.proofs.Laws.{read-usable}
 use Rattle.report_lines.specs.Lines.{refusedLine}
 use Rattle.report_text.specs.Report.{jobText, reportText}
-
--- the check that an answer tells of, and an answer's value
-module _ {A : Type 0} where
-  abbrev told : Answer A → Check
-  told (value x) = accepted
-  told (refusal number place) = refused number place
-
-  told-check : (check : Check) (x : A) → told (answer check x) ≡ check
-  told-check accepted x = refl
-  told-check (refused number place) x = refl
-
-  same-value : {x v : A} → value x ≡ value v → x ≡ v
-  same-value e = cc
 
 -- the first n entries of a list are these values
 pub record Front {A : Type 0} (n : ℕ) (values list : List A) : Type 0 where
@@ -45,8 +33,8 @@ module _ {A : Type 0} where
   front n f before rest accept e =
       rw (e, accept)
       (record {
-        room = omega (arith, length-append (entries n f) rest, list-length (λ i. f (pred i)) (f 0) n);
-        taken = rw sub-zero (take-at (entries n f) rest n (list-length (λ i. f (pred i)) (f 0) n));
+        room = omega (arith, length-append (entries n f) rest, list-length (λ i. f (pred i)) n);
+        taken = list-part (λ i. f (pred i)) n rest refl;
       })
 
 -- the fronts of the lists hold the values of an accepted job, and the engine's checks find nothing in them
@@ -70,27 +58,22 @@ module _ (bytes : List ℕ) (l : Lent) (room : Roomy l) where
   unfolding readCheck
   checked = rw (room .parents, room .costs, room .caps, room .proposals)
 
-  answer-check : {a : Answer JobValue} → a ≡ jobAnswer bytes l → readCheck bytes l ≡ told a
-  unfolding jobAnswer
-  answer-check is = sym (ap told is ∙ told-check (readCheck bytes l) (jobValue bytes))
-
   pub fronts : {v : JobValue} {after : Lent} → value v ≡ jobAnswer bytes l → after ≡ jobLists bytes l → Fronts bytes v after
   unfolding jobAnswer jobLists
   fronts {v} is lists =
-      let accept : readCheck bytes l ≡ accepted = answer-check is in
-      let v-is : v ≡ jobValue bytes = same-value (rw accept at is) in
+      let read = answered (readCheck bytes l) (jobValue bytes) v (sym is) in
       record {
-        check = sym checked ∙ accept;
-        parents = rw v-is (front _ _ _ _ accept (ap (λ (l : Lent). l .parents) lists));
-        costs = rw v-is (front _ _ _ _ accept (ap (λ (l : Lent). l .costs) lists));
-        caps = rw v-is (front _ _ _ _ accept (ap (λ (l : Lent). l .caps) lists));
-        proposals = rw v-is (front _ _ _ _ accept (ap (λ (l : Lent). l .proposals) lists));
+        check = sym checked ∙ read .0;
+        parents = rw (read .1) (front _ _ _ _ (read .0) (ap (λ (l : Lent). l .parents) lists));
+        costs = rw (read .1) (front _ _ _ _ (read .0) (ap (λ (l : Lent). l .costs) lists));
+        caps = rw (read .1) (front _ _ _ _ (read .0) (ap (λ (l : Lent). l .caps) lists));
+        proposals = rw (read .1) (front _ _ _ _ (read .0) (ap (λ (l : Lent). l .proposals) lists));
         usable = rw lists (read-usable bytes l v (sym is));
       }
 
   pub refused-report : {number place : ℕ} → refusal number place ≡ jobAnswer bytes l → reportText bytes ≡ refusedLine number place
-  unfolding reportText
-  refused-report is = rw (← checked, answer-check is)
+  unfolding reportText jobAnswer
+  refused-report is = rw (← checked, refused-answer (readCheck bytes l) (jobValue bytes) is)
 
 -- the parts of the lists that the code hands on
 module _ {bytes : List ℕ} {v : JobValue} {l : Lent} (f : Fronts bytes v l) where

@@ -29,8 +29,6 @@ fn put_cost(parents: &[u16], costs: &[u32], needs: &mut [u64], out: &mut [u8], a
 fn put_tree(parents: &[u16], costs: &[u32], proposed: &[i64], out: &mut [u8], at: usize) -> usize
     requires { ⌜ treeCheck (treeOf (now parents) (now costs)) ≡ accepted ⌝ }
     requires { ⌜ length (now proposed) ≡ memberCount (network (treeOf (now parents) (now costs))) ⌝ }
-    requires { ⌜ length (now parents) ≤ 1023 ⌝ }
-    requires { ⌜ length (now proposed) ≤ 1023 ⌝ }
     requires { ⌜ at + 22100 ≤ length (now out) ⌝ }
     ensures { λ r. ⌜ Put (now (out .entry)) at (treeText (treeOf (now (parents .entry)) (now (costs .entry))) (now (proposed .entry))) (now (out .exit)) r ⌝ }
     ensures { λ r. ⌜ r ≤ at + 22100 ⌝ }
@@ -73,7 +71,7 @@ fn put_splits(
     put_members(out, next, level, vertices, proposed, by_arc, shares)
 }
 
-// The lists are those of a job that was read, with at most 1,023 entries each.
+// The lists are those of a job that was read.
 pub fn put_job(
     parents: &[u16],
     costs: &[u32],
@@ -83,8 +81,6 @@ pub fn put_job(
 ) -> usize
     requires { ⌜ treeCheck (treeOf (now parents) (now costs)) ≡ accepted ⌝ }
     requires { ⌜ length (now proposed) ≡ memberCount (network (treeOf (now parents) (now costs))) ⌝ }
-    requires { ⌜ length (now parents) ≤ 1023 ⌝ }
-    requires { ⌜ length (now proposed) ≤ 1023 ⌝ }
     requires { ⌜ 190000 ≤ length (now out) ⌝ }
     ensures { λ r. ⌜ Put (now (out .entry)) 0 (jobText (treeOf (now (parents .entry)) (now (costs .entry))) (now (caps .entry)) (now (proposed .entry))) (now (out .exit)) r ⌝ }
 {

@@ -1,7 +1,7 @@
 -- The active members in a pass from the source outward, and their words.
 use Prim.Native.Nat.{ℕ, zero, suc, pred, _+_, _≤_, _<_}
 use mathlib.Core.Path.{_≡_, refl, sym, ap, ap₂, _∙_}
-use mathlib.Core.Bool.{Bool, true, false, not, _&&_, _||_}
+use mathlib.Core.Bool.{Bool, true, false, not, _&&_, _||_, and-true, and-false, or-false}
 use mathlib.Core.Logic.{⊎-elim}
 use mathlib.Core.List.{List}
 use native.Mathlib.Decide.{decLe}
@@ -13,12 +13,11 @@ use lib.Dec.{eqb, ltb}
 use Rattle.game.specs.Sum.{pick, count}
 use Rattle.game.specs.Tree.{ofArc, hasChild}
 use Rattle.game.specs.Group.{bit, wordsOf}
-use Rattle.game.proofs.Bools.{both, and-both, and-true, and-false, pick-yes, pick-le}
-use Rattle.game.proofs.Sums.{In, sum-longer, sum-bound}
+use Rattle.game.proofs.Bools.{both, and-both, pick-yes}
+use Rattle.game.proofs.Sums.{In, sum-longer, count-le}
 use Rattle.game.proofs.Encoding.{bit-none, none-encoded}
 use Rattle.game.proofs.Numbering.{before-member}
 use Rattle.tree.specs.Passes.{Sound}
-use Rattle.tree.proofs.Carry.{or-none}
 use Rattle.tree.proofs.MemberPass.{isMember}
 use Rattle.search.specs.Passes.{Ends, Marked}
 
@@ -101,12 +100,9 @@ module _ (ps excesses : List ℕ) where
             ∙ ap (λ (b : Bool). ltb 0 (getD excesses (suc i) 0) && b) (parent-rule ∙ ap (λ (b : Bool). eqb (getD ps i 0) 0 || b) (sym (earlier (getD ps i 0) (sound .rising i)))))
 
     module _ (words′ : List ℕ) {w : ℕ} (bits : (u : ℕ) → bit words′ u ≡ (bit words u || (chosen && (eqb u j && ltb j 1024)))) (is-w : w ≡ pick (not (getD inner (suc i) false)) 1) where
-      count-le : count i (isMember ps) ≤ i
-      count-le = omega (arith, sum-bound i 1 {f = λ v. pick (isMember ps v) 1} (λ v k. pick-le (isMember ps v) 1))
-
       -- a number other than the next keeps its bit
       kept : (u : ℕ) → (u ≡ j → ⊥) → bit words′ u ≡ bit words u
-      kept u h = bits u ∙ ap (λ (b : Bool). bit words u || (chosen && (b && ltb j 1024))) (ne-eqb u j h) ∙ ap (λ (b : Bool). bit words u || b) (and-false chosen) ∙ or-none (bit words u)
+      kept u h = bits u ∙ ap (λ (b : Bool). bit words u || (chosen && (b && ltb j 1024))) (ne-eqb u j h) ∙ ap (λ (b : Bool). bit words u || b) (and-false chosen) ∙ or-false (bit words u)
 
       marks-on : (v : ℕ) → In (suc i) v → hasChild ps v ≡ false → bit words′ (count (pred v) (isMember ps)) ≡ getD after v false
       marks-on v k m =
@@ -124,7 +120,7 @@ module _ (ps excesses : List ℕ) where
               ap (λ (u : ℕ). bit words′ (count (pred u) (isMember ps))) e
               ∙ ap (bit words′) (sym (s .numbered))
               ∙ bits j
-              ∙ ap₂ (λ (a b : Bool). a || (chosen && b)) (s .none-beyond j (omega arith)) (and-both (eq-eqb j j refl) (lt-ltb j 1024 (omega (arith, s .numbered, count-le, sound .few))))
+              ∙ ap₂ (λ (a b : Bool). a || (chosen && b)) (s .none-beyond j (omega arith)) (and-both (eq-eqb j j refl) (lt-ltb j 1024 (omega (arith, s .numbered, count-le i (isMember ps), sound .few))))
               ∙ and-true chosen
               ∙ is-chosen
               ∙ ap (λ (b : Bool). on && not b) (known ∙ ap (hasChild ps) (sym e) ∙ m)
@@ -138,7 +134,7 @@ module _ (ps excesses : List ℕ) where
           (λ (e : getD inner (suc i) false ≡ true).
           bits u
           ∙ ap (λ (b : Bool). bit words u || (b && (eqb u j && ltb j 1024))) (is-chosen ∙ ap (λ (b : Bool). on && not b) e ∙ and-false on)
-          ∙ or-none (bit words u)
+          ∙ or-false (bit words u)
           ∙ s .none-beyond u (omega arith))
           (λ (e : getD inner (suc i) false ≡ false). kept u (λ d. omega (arith, is-w, pick-yes 1 (ap not e))) ∙ s .none-beyond u (omega arith))
           (both (getD inner (suc i) false))

@@ -1,3 +1,3 @@
 pub mod Pieces
-pub mod Digits
+mod Digits
 pub mod Table

@@ -1,7 +1,7 @@
 -- A pass from the last arc down to the first that adds what each arc has to its parent's place: flags by "or", amounts by "+".
 use Prim.Native.Nat.{ℕ, zero, suc, _+_, _≤_, _<_}
 use mathlib.Core.Path.{_≡_, refl, sym, ap, ap₂, _∙_}
-use mathlib.Core.Bool.{Bool, true, false, _&&_, _||_}
+use mathlib.Core.Bool.{Bool, true, false, _&&_, _||_, or-false}
 use mathlib.Core.List.{List}
 use native.Mathlib.Nat.{add-zero, zero-add}
 use native.Mathlib.Decide.{ℕ-discrete}
@@ -29,15 +29,11 @@ pub record Adding (A : Type 0) : Type 0 where
   pub none-add : (x : A) → add none x ≡ x
   pub move : (a b c : A) → add (add a b) c ≡ add a (add c b)
 
-pub or-none : (b : Bool) → (b || false) ≡ b
-or-none true = refl
-or-none false = refl
-
 pub or-move : (a b c : Bool) → ((a || b) || c) ≡ (a || (c || b))
 or-move true b c = refl
 or-move false true true = refl
 or-move false true false = refl
-or-move false false c = sym (or-none c)
+or-move false false c = sym (or-false c)
 
 abbrev pub flags : Adding Bool
 flags =
@@ -50,7 +46,7 @@ flags =
       over-suc = λ m f. refl;
       only-yes = λ x. refl;
       only-no = λ x. refl;
-      add-none = or-none;
+      add-none = or-false;
       none-add = λ x. refl;
       move = or-move;
     }

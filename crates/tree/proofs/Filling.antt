@@ -1,11 +1,13 @@
 -- A loop that writes a list from its first place on.
-use Prim.Native.Nat.{ℕ, _+_, _≤_, _<_}
+use Prim.Native.Nat.{ℕ, suc, _+_, _≤_, _<_}
 use mathlib.Core.Path.{_≡_, sym, _∙_}
 use mathlib.Core.List.{List}
 use native.Mathlib.Decide.{ℕ-discrete}
 use native.Mathlib.Omega.{arith}
 use lib.ListN.{length, getD, set, length-set}
 use lib.Seq.{getD-set-same, getD-set-other, ext-getD}
+use Rattle.game.specs.Sum.{list}
+use Rattle.game.proofs.Lists.{list-is}
 
 module _ (n : ℕ) (f : ℕ → ℕ) where
   -- of n places those below i hold what f says
@@ -26,6 +28,9 @@ module _ (n : ℕ) (f : ℕ → ℕ) where
       where
         here : (u : ℕ) → u ≡ i → getD (set out i w) u 0 ≡ f u
         here u d = rw d (getD-set-same out i w 0 (omega (arith, s .kept)) ∙ e)
+
+    pub filling-list : n ≤ i → (g : ℕ → ℕ) → ((u : ℕ) → f u ≡ g (suc u)) → out ≡ list n g
+    filling-list h g is = list-is g 0 n out (s .kept) (λ u l. s .filled u (omega arith) ∙ is u)
 
     pub filling-end : n ≤ i → (wanted : List ℕ) → length wanted ≡ n → ((u : ℕ) → u < n → getD wanted u 0 ≡ f u) → out ≡ wanted
     filling-end h wanted e says =

@@ -1,7 +1,7 @@
 -- A group's cost in a pass from the last arc down that carries to each arc's parent that the arc is used.
 use Prim.Native.Nat.{ℕ, suc, _+_, _-_, _≤_}
 use mathlib.Core.Path.{_≡_, refl, sym, ap, ap₂, _∙_, subst}
-use mathlib.Core.Bool.{Bool, true, false, not, cond, _&&_, _||_}
+use mathlib.Core.Bool.{Bool, true, false, not, cond, _&&_, _||_, and-true, and-false, or-false}
 use mathlib.Core.Logic.{⊎-elim}
 use mathlib.Core.List.{List}
 use native.Mathlib.Nat.{zero-add}
@@ -12,11 +12,11 @@ use Rattle.game.specs.Sum.{pick, sum, some}
 use Rattle.game.specs.Network.{used, groupCost, wholeCost, number, memberCount}
 use Rattle.game.specs.Tree.{Tree, network, ofArc, hasChild}
 use Rattle.game.specs.Group.{bit, byNumber}
-use Rattle.game.proofs.Bools.{both, clash, not-so, and-first, and-true, and-false, pick-le}
-use Rattle.game.proofs.Sums.{In, some-of, some-is, sum-mono, sum-bound}
+use Rattle.game.proofs.Bools.{both, clash, not-so, and-first, pick-le}
+use Rattle.game.proofs.Sums.{In, some-of, some-is, sum-mono, count-le}
 use Rattle.game.proofs.Groups.{used-children}
 use Rattle.answers.proofs.Accepted.{Accepted}
-use Rattle.tree.proofs.Carry.{flags, Carried, carried-start, carried-at, carried-on, or-none}
+use Rattle.tree.proofs.Carry.{flags, Carried, carried-start, carried-at, carried-on}
 use Rattle.tree.proofs.MemberPass.{isMember, Left, left-start, left-known, left-room, left-number, left-on}
 use Rattle.answers.proofs.Limits.{whole-bound}
 use Rattle.tree.proofs.Bounds.{sound}
@@ -87,8 +87,7 @@ module _ (t : Tree) (words : List ℕ) (ok : Accepted t) where
     costing-room = left-room (t .parents) (sound t ok) k i within next (s .members)
 
     pub costing-few : j ≤ 1023
-    costing-few =
-        omega (arith, s .members .left, sum-bound k 1 {f = λ v. pick (isMember (t .parents) v) 1} (λ v h. pick-le (isMember (t .parents) v) 1), ok .few)
+    costing-few = omega (arith, s .members .left, count-le k (isMember (t .parents)), ok .few)
 
     pub costing-number : (w : ℕ) → w ≡ pick (not (getD has k false)) 1 → j - w ≡ number (network t) k
     costing-number = left-number (t .parents) (sound t ok) k i within next (s .members)
@@ -106,7 +105,7 @@ module _ (t : Tree) (words : List ℕ) (ok : Accepted t) where
         ∙ ap (bit words) (e ∙ ap (number (network t)) next)
         ∙ sym
         (ap₂ (λ (a b : Bool). a || b) (ap (λ (b : Bool). chosen t words (suc i) && not b) h ∙ and-true (chosen t words (suc i))) (no-child h)
-        ∙ or-none (chosen t words (suc i)))
+        ∙ or-false (chosen t words (suc i)))
         ∙ sym by-rule)
         (both (hasChild (t .parents) (suc i)))
       where

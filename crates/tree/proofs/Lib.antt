@@ -1,10 +1,9 @@
 pub mod Carry
 pub mod Bounds
 pub mod MemberPass
-pub mod SumPass
+mod SumPass
 pub mod Filling
 pub mod CapPass
-pub mod GroupPass
-pub mod Lent
+mod GroupPass
 pub mod Vertices
-pub mod UserCounts
+mod UserCounts

@@ -1,7 +1,7 @@
 -- The members in a pass from the last arc down: which vertices have a child, how many members there are, and their list.
 use Prim.Native.Nat.{ℕ, suc, pred, _+_, _-_, _≤_, _<_}
 use mathlib.Core.Path.{_≡_, refl, sym, ap, ap₂, _∙_, subst}
-use mathlib.Core.Bool.{Bool, true, false, not, cond}
+use mathlib.Core.Bool.{Bool, true, false, not, cond, and-true, or-false}
 use mathlib.Core.Logic.{⊎-elim}
 use mathlib.Core.List.{List, [], _∷_, _++_, append-assoc, append-nil}
 use native.Mathlib.Nat.{zero-add}
@@ -12,11 +12,11 @@ use lib.Dec.{eqb}
 use Rattle.game.specs.Sum.{pick, count}
 use Rattle.game.specs.Network.{everyone, membersTo}
 use Rattle.game.specs.Tree.{ofArc, hasChild}
-use Rattle.game.proofs.Bools.{both, and-true, or-second}
+use Rattle.game.proofs.Bools.{both, or-second}
 use Rattle.game.proofs.Sums.{some-cong}
 use Rattle.game.proofs.Numbering.{members-yes, members-no, members-length}
 use Rattle.tree.specs.Passes.{Sound}
-use Rattle.tree.proofs.Carry.{flags, or-none, children, Carried, carried-start, carried-at, carried-on}
+use Rattle.tree.proofs.Carry.{flags, children, Carried, carried-start, carried-at, carried-on}
 
 -- the list from a place on that has just been written
 drop-set : (l : List ℕ) (i x : ℕ) → i < length l → drop i (set l i x) ≡ x ∷ drop (suc i) l
@@ -85,7 +85,7 @@ module _ (ps : List ℕ) where
   -- after the last arc it is known of every vertex
   pub left-end : {has : List Bool} {j k : ℕ} → k ≡ 0 → Left has j k → (v : ℕ) → v < 1024 → getD has v false ≡ hasChild ps v
   left-end {has} e l v h =
-      sym (or-none (getD has v false)) ∙ subst (λ (i : ℕ). Met i has) e (l .met) .lacks v h ∙ met-children v
+      sym (or-false (getD has v false)) ∙ subst (λ (i : ℕ). Met i has) e (l .met) .lacks v h ∙ met-children v
 
   module _ (sound : Sound ps) (k i : ℕ) (within : k ≤ length ps) (next : k ≡ suc i) {has : List Bool} {j : ℕ} (l : Left has j k) where
     met-next : Met (suc i) has

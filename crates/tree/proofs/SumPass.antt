@@ -12,10 +12,10 @@ use Rattle.game.specs.Network.{sumBelow}
 use Rattle.game.specs.Tree.{treeOf, network, ofArc}
 use Rattle.game.proofs.Bools.{pick-yes}
 use Rattle.game.proofs.Below.{sum-below-children, sum-from-source}
-use Rattle.game.proofs.Needs.{sum-below-le}
+use Rattle.game.proofs.SumBounds.{sum-below-le, children-le}
 use Rattle.game.proofs.Lists.{list-is}
 use Rattle.tree.specs.Passes.{Sound}
-use Rattle.tree.proofs.Carry.{amounts, child, children, Carried, carried-start, carried-at, carried-on}
+use Rattle.tree.proofs.Carry.{amounts, child, Carried, carried-start, carried-at, carried-on}
 
 module _ (ps xs : List ℕ) where
   -- an arc's entry and those of all arcs below it
@@ -52,19 +52,6 @@ module _ (ps xs : List ℕ) where
           sum-from-source (network (treeOf ps [])) (sound .rising) (ofArc xs),
         )
 
-    -- the sums of v's children are part of the whole
-    below-bound : (v : ℕ) → v ≤ length ps → children amounts ps total v ≤ sum (length ps) (ofArc xs)
-    below-bound v h =
-        elim (ℕ-discrete v 0) [
-          | yes e ↦ rw e (omega (arith, sum-from-source (network (treeOf ps [])) (sound .rising) (ofArc xs)))
-          | no e ↦
-              omega (
-                arith,
-                sum-below-children (network (treeOf ps [])) (sound .rising) (ofArc xs) v (omega arith),
-                sum-below-le (network (treeOf ps [])) (ofArc xs) v,
-              )
-        ]
-
     module _ (k j : ℕ) (within : k ≤ length ps) (next : k ≡ suc j) {out below : List ℕ} (s : Summing out below k) where
       here : Carried amounts ps total (suc j) below
       here = subst (λ (i : ℕ). Carried amounts ps total i below) next (s .carried)
@@ -90,7 +77,7 @@ module _ (ps xs : List ℕ) where
             here .lacks (getD ps j 0) (omega (arith, sound .rising j, sound .few)),
             pick-yes (total (suc j)) (eq-eqb (getD ps j 0) (getD ps j 0) refl),
             ap total next,
-            below-bound (getD ps j 0) (omega (arith, sound .rising j)),
+            children-le (network (treeOf ps [])) (sound .rising) (ofArc xs) (getD ps j 0) (omega (arith, sound .rising j)),
           )
 
       pub summing-on : (w : ℕ) → w ≡ total k → Summing (set out j w) (set below (getD ps j 0) (getD below (getD ps j 0) 0 + w)) j

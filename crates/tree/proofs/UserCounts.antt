@@ -12,7 +12,7 @@ use Rattle.game.specs.Group.{size}
 use Rattle.game.specs.Core.{users}
 use Rattle.game.specs.ByArc.{userCount}
 use Rattle.game.proofs.Sums.{sum-cong}
-use Rattle.game.proofs.NaturalShares.{users-by-vertex}
+use Rattle.game.proofs.Core.{users-by-vertex}
 use Rattle.answers.specs.Level.{Capped, capSum}
 
 -- k ones, one a member

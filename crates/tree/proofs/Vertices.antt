@@ -4,11 +4,9 @@ use mathlib.Core.Path.{_≡_}
 use mathlib.Core.List.{List, []}
 use native.Mathlib.Omega.{arith}
 use lib.ListN.{length}
-use Rattle.game.specs.Sum.{pick}
 use Rattle.game.specs.Network.{memberCount, members}
 use Rattle.game.specs.Tree.{treeOf, network}
-use Rattle.game.proofs.Bools.{pick-le}
-use Rattle.game.proofs.Sums.{sum-bound}
+use Rattle.game.proofs.Sums.{count-le}
 use Rattle.tree.specs.Passes.{Sound}
 use Rattle.tree.proofs.MemberPass.{isMember}
 use Rattle.tree.proofs.CapPass.{member-count}
@@ -18,5 +16,4 @@ module _ (ps vertices : List ℕ) (are : vertices ≡ members (network (treeOf p
   vertices-count = member-count (network (treeOf ps [])) are
 
   pub vertices-few : Sound ps → length vertices ≤ 1023
-  vertices-few sound =
-      omega (arith, vertices-count, sum-bound (length ps) 1 {f = λ v. pick (isMember ps v) 1} (λ v i. pick-le (isMember ps v) 1), sound .few)
+  vertices-few sound = omega (arith, vertices-count, count-le (length ps) (isMember ps), sound .few)

@@ -1,24 +1,14 @@
 // The cap sums of all arcs: the members' caps at their vertices, added up from below.
+use crate::place::write_all;
 use crate::sums::add_up;
 ghost use mathlib.Core.Path.{_≡_};
 ghost use mathlib.Core.List.{[]};
-ghost use lib.ListN.{length, replicate};
+ghost use lib.ListN.{length};
 ghost use Rattle.game.specs.Sum.{list};
 ghost use Rattle.game.specs.Network.{members};
 ghost use Rattle.game.specs.Tree.{treeOf, network};
 ghost use Rattle.answers.specs.Level.{Capped, capSum};
 ghost use Rattle.tree.specs.Passes.{Sound};
-
-// Writes a number at every place.
-pub fn write_all(out: &mut [u64], value: u64)
-    ensures { λ _. ⌜ now (out .exit) ≡ replicate (length (now (out .entry))) value ⌝ }
-{
-    let mut i = 0;
-    while i < out.len() {
-        out[i] = value;
-        i += 1;
-    }
-}
 
 // Writes for each arc what the caps of its users add up to.
 pub fn write_cap_sums(parents: &[u16], vertices: &[u16], caps: &[u64], out: &mut [u64])

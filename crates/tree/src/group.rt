@@ -42,7 +42,11 @@ pub fn cost_of(parents: &[u16], costs: &[u32], words: [u64; 16], members: usize)
     while k > 1 {
         k -= 1;
         j -= one_if_member(has_child[k]);
-        let here = used_here(has_child[k], used[k], bits::in_word(words[j / 64], j % 64));
+        let here = used_here(
+            has_child[k],
+            used[k],
+            numbers::bit_of(words[j / 64], j % 64),
+        );
         cost += cost_if(here, costs[k - 1]);
         let p = parents[k - 1] as usize;
         has_child[p] = true;

@@ -5,10 +5,10 @@ mod counts;
 mod group;
 mod members;
 mod needs;
+mod place;
 mod sums;
 mod whole;
 
-pub use caps::write_all;
 pub use caps::write_cap_sums;
 pub use counts::write_user_counts;
 pub use group::cost_of;
@@ -16,4 +16,5 @@ pub use members::count_members;
 pub use members::one_if_member;
 pub use members::write_members;
 pub use needs::write_needs;
+pub use place::write_all;
 pub use whole::whole_cost;

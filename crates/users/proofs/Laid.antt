@@ -13,18 +13,18 @@ use Rattle.game.specs.Tree.{treeOf, network, ofArc}
 use Rattle.game.specs.Core.{users}
 use Rattle.game.specs.ByArc.{userCount}
 use Rattle.game.proofs.Bools.{pick-yes}
-use Rattle.game.proofs.Sums.{In, sum-cong, sum-at, sum-longer, term-le}
+use Rattle.game.proofs.Sums.{In, sum-cong, sum-at, sum-longer, term-le, count-le}
 use Rattle.game.proofs.Sizes.{size-le}
-use Rattle.game.proofs.Lists.{list-length, list-at}
+use Rattle.game.proofs.Lists.{list-length, list-at, of-list}
 use Rattle.game.proofs.Below.{below-self}
 use Rattle.game.proofs.Shapley.{user-count-pos}
 use Rattle.answers.proofs.CoreLaws.{members-end}
 use Rattle.tree.specs.Passes.{Sound}
 use Rattle.tree.proofs.CapPass.{member-in}
 use Rattle.users.specs.Users.{total, LaidOut}
-use Rattle.users.specs.Layout.{Counts, Begun, slot, Apart, Ordered}
-use Rattle.users.proofs.UserSums.{vertex, over-members, over-users, users-count}
-use Rattle.users.proofs.Walk.{held, before, Begins, arc-filled, all-filled, arc-within}
+use Rattle.users.specs.Layout.{Counts, Begins, Begun, slot, Apart, Ordered}
+use Rattle.users.proofs.UserSums.{vertex, over-members, over-users}
+use Rattle.users.proofs.Walk.{before, arc-filled, all-filled, arc-within}
 use Rattle.tree.proofs.Vertices.{vertices-count, vertices-few}
 
 -- the sum over a part of a list
@@ -46,15 +46,15 @@ user-counts ps sound e =
     let n = network (treeOf ps []) in
     rw e
     (record {
-      sized = list-length (userCount n) 0 (length ps);
+      sized = list-length (userCount n) (length ps);
       limited =
           λ i h.
           omega (
             arith,
             list-at (userCount n) 0 (length ps) i h,
             size-le (memberCount n) (users n (suc i)),
-            vertices-count ps (members n) refl,
-            vertices-few ps (members n) refl sound,
+            count-le (n .arcs) (n .member),
+            sound .few,
           );
     })
 
@@ -63,17 +63,16 @@ module _ (ps counts starts : List ℕ) (sound : Sound ps) (counted : counts ≡ 
   abbrev net : Network
   net = network (treeOf ps [])
 
-  count-of : (k : ℕ) → In (length ps) k → ofArc counts k ≡ held net k
-  count-of zero i = absurd (omega arith)
-  count-of (suc k) i = ap (λ (l : List ℕ). getD l k 0) counted ∙ list-at (userCount net) 0 (length ps) k (omega arith) ∙ users-count net (suc k)
+  count-of : (k : ℕ) → In (length ps) k → ofArc counts k ≡ userCount net k
+  count-of k i = ap (λ (l : List ℕ). ofArc l k) counted ∙ of-list (length ps) (userCount net) k i
 
-  begins : Begins net (ofArc starts)
+  begins : Begins (length ps) (ofArc ps) (userCount net) (ofArc starts)
   begins =
       record {
         source = refl;
         after =
             λ i h.
-            begun .after i h
+            begun .begins .after i h
             ∙ ap (λ (s : ℕ). ofArc starts (getD ps i 0) + s)
             (sum-cong i (λ u j. ap (pick (eqb (ofArc ps u) (getD ps i 0))) (count-of u (omega arith))));
       }
@@ -99,7 +98,6 @@ module _ (ps counts starts : List ℕ) (sound : Sound ps) (counted : counts ≡ 
           arith,
           arc-reach v (member-in net are j h),
           count-of v (member-in net are j h),
-          users-count net v,
           user-count-pos net v j (omega (arith, vertices-count ps vertices are))
               (ap (λ (l : List ℕ). atOrBelow net v (getD l j 0)) (sym are) ∙ below-self net (sound .rising) v),
         )

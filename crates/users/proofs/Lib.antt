@@ -1,6 +1,6 @@
 pub mod Parts
 mod StartPass
 mod OrderPass
-pub mod UserSums
+mod UserSums
 mod Walk
 mod Laid

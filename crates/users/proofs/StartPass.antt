@@ -7,29 +7,23 @@ use native.Mathlib.Omega.{arith}
 use borrow.Author.Tests.{eq-eqb, ne-eqb}
 use lib.ListN.{length, getD, set, replicate, length-set, length-replicate}
 use lib.Seq.{getD-set-same, getD-set-other}
-use lib.Dec.{eqb}
-use Rattle.game.specs.Sum.{pick, sum}
 use Rattle.game.specs.Tree.{ofArc}
 use Rattle.game.proofs.Bools.{pick-yes, pick-no}
 use Rattle.game.proofs.Sums.{In, sum-zero}
 use Rattle.tree.specs.Passes.{Sound}
-use Rattle.users.specs.Layout.{Counts, Begun}
+use Rattle.users.specs.Layout.{Counts, leaving, Begins, Begun}
 
 module _ (ps counts : List ℕ) where
-  -- the counts of those of the arcs 1 to i that leave vertex v
-  abbrev taken : ℕ → ℕ → ℕ
-  taken i v = sum i (λ u. pick (eqb (ofArc ps u) v) (ofArc counts u))
-
   -- after the arcs 1 to i the next child arc of v begins at `place`
   pub record Next (starts : List ℕ) (i v place : ℕ) : Type 0 where
-    pub is : place ≡ ofArc starts v + taken i v
+    pub is : place ≡ ofArc starts v + leaving (ofArc ps) (ofArc counts) v i
     pub small : place ≤ i * 1023
 
   -- the arcs 1 to i begin where they are to
   pub record Beginning (starts next : List ℕ) (i : ℕ) : Type 0 where
     pub kept : length starts ≡ length ps
     pub places : length next ≡ 1024
-    pub begun : (u : ℕ) → u < i → getD starts u 0 ≡ ofArc starts (getD ps u 0) + taken u (getD ps u 0)
+    pub begins : Begins i (ofArc ps) (ofArc counts) (ofArc starts)
     pub nexts : (v : ℕ) → v ≤ i → Next starts i v (getD next v 0)
 
   pub beginning-start : {starts : List ℕ} → length starts ≡ length ps → Beginning starts (replicate 1024 0) 0
@@ -37,7 +31,7 @@ module _ (ps counts : List ℕ) where
       record {
         kept = l;
         places = length-replicate {A = ℕ} 1024 0;
-        begun = λ u h. absurd (omega arith);
+        begins = record { source = refl; after = λ u h. absurd (omega arith) };
         nexts =
             λ v h.
             let e : v ≡ 0 = omega arith in
@@ -45,7 +39,7 @@ module _ (ps counts : List ℕ) where
       }
 
   pub beginning-end : {starts next : List ℕ} {i : ℕ} → length ps ≤ i → Beginning starts next i → Begun ps counts starts
-  beginning-end h s = record { kept = s .kept; after = λ u l. s .begun u (omega arith) }
+  beginning-end h s = record { kept = s .kept; begins = record { source = refl; after = λ u l. s .begins .after u (omega arith) } }
 
   module _ (sound : Sound ps) (counted : Counts (length ps) counts) {starts next : List ℕ} {i : ℕ} (within : i < length ps) (s : Beginning starts next i) where
     -- the next arc's parent, and where the arc begins
@@ -79,21 +73,21 @@ module _ (ps counts : List ℕ) where
     own : getD starts′ i 0 ≡ w
     own = getD-set-same starts i w 0 (omega (arith, s .kept))
 
-    begun-on : (u : ℕ) → u < suc i → getD starts′ u 0 ≡ ofArc starts′ (getD ps u 0) + taken u (getD ps u 0)
-    begun-on u h =
+    after-on : (u : ℕ) → u < suc i → getD starts′ u 0 ≡ ofArc starts′ (getD ps u 0) + leaving (ofArc ps) (ofArc counts) (getD ps u 0) u
+    after-on u h =
         elim (ℕ-discrete u i) [
           | yes e ↦ rw e (omega (arith, own, at-parent .is, kept-before p (sound .rising i)))
           | no e ↦
               omega (
                 arith,
                 getD-set-other starts i u w 0 e,
-                s .begun u (omega arith),
+                s .begins .after u (omega arith),
                 kept-before (getD ps u 0) (omega (arith, sound .rising u)),
               )
         ]
 
     -- no arc up to i + 1 leaves vertex i + 1
-    none-leave : taken (suc i) (suc i) ≡ 0
+    none-leave : leaving (ofArc ps) (ofArc counts) (suc i) (suc i) ≡ 0
     none-leave = sum-zero (suc i) (λ u j. pick-no (ofArc counts u) (ne-eqb (ofArc ps u) (suc i) (λ e. later u j e)))
       where
         later : (u : ℕ) → In (suc i) u → ofArc ps u ≡ suc i → ⊥
@@ -136,6 +130,6 @@ module _ (ps counts : List ℕ) where
         record {
           kept = length-set starts i w ∙ s .kept;
           places = length-set moved (suc i) w ∙ length-set next p (w + getD counts i 0) ∙ s .places;
-          begun = begun-on;
+          begins = record { source = refl; after = after-on };
           nexts = nexts-on;
         }

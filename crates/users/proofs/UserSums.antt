@@ -1,34 +1,57 @@
--- A sum over an arc's users, by member number and by vertex.
-use Prim.Native.Nat.{ℕ, pred}
-use mathlib.Core.Path.{_≡_, ap, _∙_}
+-- Sums over the members and over an arc's users, by vertex; an arc's number of users from those of its child arcs.
+use Prim.Native.Nat.{ℕ, pred, _+_}
+use mathlib.Core.Path.{_≡_, sym, ap, _∙_, subst, fun-ext}
+use mathlib.Core.Bool.{true}
 use lib.ListN.{getD}
 use Rattle.game.specs.Sum.{pick, sum}
-use Rattle.game.specs.Network.{Network, atOrBelow, sumBelow, memberCount, members}
+use Rattle.game.specs.Network.{Network, atOrBelow, sumBelow, number, memberCount, members}
 use Rattle.game.specs.Group.{size}
 use Rattle.game.specs.Core.{users}
 use Rattle.game.specs.ByArc.{userCount}
-use Rattle.game.proofs.Bools.{pick-same, pick-swap}
-use Rattle.game.proofs.Sums.{sum-cong}
+use Rattle.game.proofs.Bools.{pick-same, pick-yes}
+use Rattle.game.proofs.Sums.{In, sum-cong}
+use Rattle.game.proofs.Below.{Rooted, sum-below-children, sum-from-source}
+use Rattle.game.proofs.Certificate.{children}
+use Rattle.game.proofs.Excess.{MembersEnd}
+use Rattle.game.proofs.Core.{users-by-vertex, own-sum}
 use Rattle.game.proofs.Numbering.{member-at}
 use Rattle.game.proofs.Overpayment.{members-sum}
-use Rattle.game.proofs.NaturalShares.{users-by-vertex}
 
 module _ (n : Network) where
   -- the vertex of a member number
   abbrev pub vertex : ℕ → ℕ
   vertex j = getD (members n) j 0
 
+  -- at a member's vertex, the vertex of its number
+  at-number : (x : ℕ → ℕ) (v : ℕ) → In (n .arcs) v → pick (n .member v) (x (vertex (number n v))) ≡ pick (n .member v) (x v)
+  at-number x v i = pick-same (n .member v) (λ m. ap x (member-at (n .member) (n .arcs) v i m))
+
   pub over-members : (x : ℕ → ℕ) → sum (memberCount n) (λ i. x (vertex (pred i))) ≡ sum (n .arcs) (λ v. pick (n .member v) (x v))
   over-members x =
-      members-sum (n .arcs) (n .member) (λ j. x (vertex j))
-      ∙ sum-cong (n .arcs) (λ v i. pick-same (n .member v) (λ m. ap x (member-at (n .member) (n .arcs) v i m)))
+      members-sum (n .arcs) (n .member) (λ j. x (vertex j)) ∙ sum-cong (n .arcs) (at-number x)
 
   pub over-users : (x : ℕ → ℕ) (k : ℕ)
       → sum (memberCount n) (λ i. pick (users n k (pred i)) (x (vertex (pred i)))) ≡ sumBelow n (λ v. pick (n .member v) (x v)) k
   unfolding sumBelow
   over-users x k =
-      over-members (λ v. pick (atOrBelow n k v) (x v)) ∙ sum-cong (n .arcs) (λ v i. pick-swap (n .member v) (atOrBelow n k v) (x v))
+      users-by-vertex n (λ j. x (vertex j)) k ∙ sum-cong (n .arcs) (λ v i. ap (pick (atOrBelow n k v)) (at-number x v i))
 
-  pub users-count : (k : ℕ) → userCount n k ≡ sumBelow n (λ v. pick (n .member v) 1) k
+  abbrev ones : ℕ → ℕ
+  ones v = pick (n .member v) 1
+
+  users-count : (k : ℕ) → userCount n k ≡ sumBelow n ones k
   unfolding size
   users-count k = users-by-vertex n (λ j. 1) k
+
+  module _ (rooted : Rooted n) where
+    -- the member itself and the users of the child arcs
+    pub count-children : (v : ℕ) → In (n .arcs) v → userCount n v ≡ ones v + children n (userCount n) v
+    count-children v i =
+        subst (λ (c : ℕ → ℕ). c v ≡ ones v + children n c v) (sym (fun-ext users-count)) (sum-below-children n rooted ones v i)
+
+    -- the members are the users of the arcs that leave the source
+    pub count-from-source : memberCount n ≡ children n (userCount n) 0
+    count-from-source = subst (λ (c : ℕ → ℕ). memberCount n ≡ children n c 0) (sym (fun-ext users-count)) (sum-from-source n rooted ones)
+
+    pub count-own : MembersEnd n → (v : ℕ) → In (n .arcs) v → n .member v ≡ true → userCount n v ≡ 1
+    count-own ends v i m = users-count v ∙ own-sum n rooted ends ones v i m ∙ pick-yes 1 m

@@ -1,5 +1,5 @@
 -- What the two loops of the layout ask for and write.
-use Prim.Native.Nat.{ℕ, _+_, _≤_, _<_}
+use Prim.Native.Nat.{ℕ, suc, _+_, _≤_, _<_}
 use mathlib.Core.Path.{_≡_}
 use mathlib.Core.List.{List}
 use lib.ListN.{length, getD}
@@ -12,11 +12,18 @@ pub record Counts (arcs : ℕ) (counts : List ℕ) : Type 0 where
   pub sized : length counts ≡ arcs
   pub limited : (i : ℕ) → i < arcs → getD counts i 0 ≤ 1023
 
--- an arc's users begin where its parent's begin, after those of the parent's child arcs with a smaller number
+-- the sum of x over those of the arcs 1 to i that leave vertex p
+abbrev pub leaving : (ℕ → ℕ) → (ℕ → ℕ) → ℕ → ℕ → ℕ
+leaving parent x p i = sum i (λ u. pick (eqb (parent u) p) (x u))
+
+-- the users of each of the arcs 1 to m begin where its parent's begin, after those of the parent's child arcs with a smaller number
+pub record Begins (m : ℕ) (parent count start : ℕ → ℕ) : Type 0 where
+  pub source : start 0 ≡ 0
+  pub after : (i : ℕ) → i < m → start (suc i) ≡ start (parent (suc i)) + leaving parent count (parent (suc i)) i
+
 pub record Begun (parents counts starts : List ℕ) : Type 0 where
   pub kept : length starts ≡ length parents
-  pub after : (i : ℕ) → i < length parents
-      → getD starts i 0 ≡ ofArc starts (getD parents i 0) + sum i (λ u. pick (eqb (ofArc parents u) (getD parents i 0)) (ofArc counts u))
+  pub begins : Begins (length parents) (ofArc parents) (ofArc counts) (ofArc starts)
 
 -- the place of member j: where its arc's users begin
 abbrev pub slot : List ℕ → List ℕ → ℕ → ℕ

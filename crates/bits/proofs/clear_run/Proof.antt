@@ -1,6 +1,7 @@
-use mathlib.Core.Path.{_≡_}
+use mathlib.Core.Path.{_≡_, sym, _∙_}
 use native.Mathlib.Omega.{arith}
 use borrow.Author.Needs.{needs}
+use Rattle.game.specs.Group.{bit}
 use Rattle.bits.proofs.Words.{clear-rest}
 use Rattle.bits.proofs.clear_run.Statement.{statement}
 use Rattle.bits.proofs.clear_run.Tie as tie
@@ -13,13 +14,18 @@ returns c =
       small = omega arith;
     }
 
+first-bit : (c : tie.After-bit-of) → c .bit-of .result ≡ bit (c .before .before .args .t1) (c .before .before .args .j)
+unfolding bit
+first-bit c = c .bit-of .ensures
+
 returns-2 : tie.Need-returns-2
-returns-2 c = record { clear = λ k l h. absurd (omega arith); none = λ e. cc; small = omega arith }
+returns-2 c =
+    record { clear = λ k l h. absurd (omega arith); none = λ e. sym (first-bit (c .before)) ∙ c .if2 .taken; small = omega arith }
 
 returns-3 : tie.Need-returns-3
 returns-3 c =
     record {
-      clear = λ k l h. let e : k ≡ c .before .before .before .args .j = omega arith in rw e (cc);
+      clear = λ k l h. let e : k ≡ c .before .before .before .args .j = omega arith in rw e (sym (first-bit (c .before)) ∙ c .if2 .left);
       none = λ e. absurd (omega arith);
       small = omega arith;
     }
@@ -27,4 +33,14 @@ returns-3 c =
 pub clear-run-spec : {M : Type 1} → statement M
 clear-run-spec =
     tie.close
-    (tie.spec (λ c. search needs) (λ c. search needs) (λ c. search needs) (λ c. search needs) (λ c κs. search needs) returns returns-2 returns-3)
+    (tie.spec
+    (λ c. search needs)
+    (λ c. search needs)
+    (λ c. search needs)
+    (λ c. search needs)
+    (λ c. search needs)
+    (λ c. search needs)
+    (λ c κs. search needs)
+    returns
+    returns-2
+    returns-3)

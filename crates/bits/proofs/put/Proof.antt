@@ -1,11 +1,10 @@
 use Prim.Native.Nat.{_/_}
-use mathlib.Core.Bool.{or-false}
+use mathlib.Core.Bool.{or-false, and-true, and-false}
 use mathlib.Core.Logic.{⊎-elim}
 use native.Mathlib.Omega.{arith}
 use borrow.Author.Needs.{needs}
 use borrow.Author.Tests.{ltb-true}
 use denote.Ref.{now}
-use Rattle.game.proofs.Bools.{and-true, and-false}
 use Rattle.game.proofs.Encoding.{encoded-set}
 use Rattle.bits.proofs.Setting.{bit-set}
 use Rattle.bits.proofs.put.Statement.{statement}

@@ -1,8 +1,6 @@
-use Prim.Native.Nat.{_-_}
 use mathlib.Core.Path.{sym, ap, _∙_}
 use native.Mathlib.Omega.{arith}
 use denote.Ref.{now}
-use lib.ListN.{length-take}
 use Rattle.job.specs.Reader.{Lent, JobValue, lent, jobReadOf}
 use Rattle.report_text.proofs.Reading.{Roomy, Fronts, fronts, front-tree, front-members, front-report, refused-report}
 use borrow.Author.Needs.{needs}
@@ -45,20 +43,7 @@ part-put-job-end-4 c = omega (arith, job (c .before .before .before .before .bef
 put-job-requires : tie.Need-put-job-requires
 put-job-requires c κs =
     let read = c .before .before .before .before .before .before .before .before .before .before in
-    let kept = called read .read .kept .1 in
-    let room = roomy (start read) in (
-      front-tree (job read),
-      (
-        front-members (job read),
-        (
-          omega (arith, length-take (values read .arcs - 0) (lists read .parents), kept .0, room .parents),
-          (
-            omega (arith, length-take (values read .members - 0) (lists read .proposals), kept .1 .1 .1 .0, room .proposals),
-            omega (arith, start read .pre .1 .1 .1 .1),
-          ),
-        ),
-      ),
-    )
+    (front-tree (job read), (front-members (job read), omega (arith, start read .pre .1 .1 .1 .1)))
 
 returns : tie.Need-returns
 returns c = rw (← front-report (job (c .before .before .before .before .before .before .before .before .before .before .before .before .before))) (c .before .before .put-job .ensures)

@@ -4,7 +4,7 @@ use lib.ListN.{length}
 use denote.Ref.{now}
 use Rattle.game.specs.Tree.{treeOf}
 use Rattle.answers.proofs.Accepted.{tree-accepted}
-use Rattle.tree.proofs.Lent.{sized}
+use Rattle.game.proofs.Lists.{zeros-length}
 use borrow.Author.Needs.{needs}
 use Rattle.by_arc.proofs.arcs.split_arcs.Statement.{statement}
 use Rattle.by_arc.proofs.arcs.split_arcs.Tie as tie
@@ -25,7 +25,7 @@ split-in-requires : tie.Need-split-in-requires
 split-in-requires c κs =
     let pre = c .before .before .before .before .before .before .before .before .pre in
     let few = tree-accepted _ (pre .0) .few in
-    (pre .0, (pre .1 .0, (pre .1 .1, (sized _ few, (sized _ few, sized _ few)))))
+    (pre .0, (pre .1 .0, (pre .1 .1, (zeros-length _ few, (zeros-length _ few, zeros-length _ few)))))
 
 pub split-arcs-spec : {M : Type 1} → statement M
 split-arcs-spec =

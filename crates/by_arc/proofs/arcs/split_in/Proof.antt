@@ -1,9 +1,7 @@
 use mathlib.Core.Path.{_∙_}
-use mathlib.Core.List.{[]}
-use Rattle.game.specs.Tree.{treeOf, network}
 use Rattle.answers.proofs.Accepted.{tree-accepted}
 use Rattle.tree.proofs.Bounds.{sound}
-use Rattle.tree.proofs.CapPass.{member-count}
+use Rattle.tree.proofs.Vertices.{vertices-count}
 use Rattle.by_arc.proofs.Split.{counts-some, split-parts, split-is}
 use borrow.Author.Needs.{needs}
 use Rattle.by_arc.proofs.arcs.split_in.Statement.{statement}
@@ -37,7 +35,7 @@ returns c =
     let divided = shared .before .before .before .before .before .before .before .before in
     let counted = divided .before .before .before .before .before .before .before .before in
     let pre = counted .before .before .before .before .before .before .before .before .before .before .pre in
-    let one-a-member = counted .write-user-counts .kept .1 .1 .0 ∙ pre .1 .1 .0 ∙ member-count (network (treeOf _ [])) (pre .1 .0) in
+    let one-a-member = counted .write-user-counts .kept .1 .1 .0 ∙ pre .1 .1 .0 ∙ vertices-count _ _ (pre .1 .0) in
     shared .write-shares .ensures
     ∙ split-is _ (tree-accepted _ (pre .0)) (counted .write-user-counts .ensures) (divided .divide .ensures .0) (divided .divide .ensures .1) one-a-member
 

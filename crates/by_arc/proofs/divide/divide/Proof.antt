@@ -2,8 +2,7 @@ use Prim.Native.Nat.{ℕ, _-_, _/_, _%_, _<_}
 use mathlib.Core.Path.{_≡_, refl}
 use native.Mathlib.Omega.{arith}
 use lib.ListN.{length, getD}
-use Rattle.game.proofs.Lists.{list-is}
-use Rattle.tree.proofs.Filling.{Filling, filling-on}
+use Rattle.tree.proofs.Filling.{Filling, filling-on, filling-list}
 use borrow.Author.Needs.{needs}
 use Rattle.by_arc.proofs.divide.divide.Statement.{statement}
 use Rattle.by_arc.proofs.divide.divide.Tie as tie
@@ -32,7 +31,7 @@ loop-again c =
 returns : tie.Need-returns Inv-loop μ-loop
 returns c =
     let inv = c .before .loop .inv in
-    (list-is _ 0 _ _ (inv .2 .kept) (λ u h. inv .2 .filled u (omega arith)), list-is _ 0 _ _ (inv .3 .kept) (λ u h. inv .3 .filled u (omega arith)))
+    (filling-list _ _ (inv .2) (omega arith) _ (λ u. refl), filling-list _ _ (inv .3) (omega arith) _ (λ u. refl))
 
 pub divide-spec : {M : Type 1} → statement M
 divide-spec =

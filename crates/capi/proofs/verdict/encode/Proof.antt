@@ -17,15 +17,16 @@ opened : {a b : AuditFound} (words : List ℕ) → a ≡ b → encodeAudit (audi
 opened words e = sym (ap (λ (x : AuditFound). encodeAudit (auditOf x) words) e)
 
 returns : tie.Need-returns
-returns c = opened _ (c .enum-told .given .1)
+returns c = c .audited .ensures ∙ opened _ (c .before .enum-told .given .1)
 
 returns-2 : tie.Need-returns-2
 returns-2 c =
-    ap (λ (d : ℤ). encodeAudit (value (wrongTotal d)) (c .before .before .before .args .group)) (toZ-ofZ {w = w64} (record { sfits = c .known-told .given .0 .1 }))
-    ∙ opened _ (c .before .found .given .1)
+    c .audited2 .ensures
+    ∙ ap (λ (d : ℤ). encodeAudit (value (wrongTotal d)) (c .before .before .before .before .args .group)) (toZ-ofZ {w = w64} (record { sfits = c .before .known-told .given .0 .1 }))
+    ∙ opened _ (c .before .before .found .given .1)
 
 returns-3 : tie.Need-returns-3
-returns-3 c = opened _ (c .before .found2 .given .1)
+returns-3 c = c .audited3 .ensures ∙ opened _ (c .before .before .found2 .given .1)
 
 returns-4 : tie.Need-returns-4
 returns-4 c = opened _ (c .before .found3 .given .1)
@@ -33,4 +34,15 @@ returns-4 c = opened _ (c .before .found3 .given .1)
 pub encode-spec : {M : Type 1} → statement M
 encode-spec =
     tie.close
-    (tie.spec (λ c. search needs) (λ c. search needs) (λ c. search needs) (λ c. search needs) returns returns-2 returns-3 returns-4)
+    (tie.spec
+    (λ c. search needs)
+    (λ c κs. search needs)
+    (λ c. search needs)
+    (λ c κs. search needs)
+    (λ c. search needs)
+    (λ c κs. search needs)
+    (λ c. search needs)
+    returns
+    returns-2
+    returns-3
+    returns-4)

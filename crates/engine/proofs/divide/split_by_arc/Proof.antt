@@ -13,7 +13,7 @@ use Rattle.answers.proofs.Limits.{members-bound}
 use Rattle.checks.specs.Checked.{checkOf}
 use Rattle.checks.proofs.Opened.{opened, turned-away}
 use Rattle.tree.proofs.Bounds.{sound}
-use Rattle.tree.proofs.Lent.{sized}
+use Rattle.game.proofs.Lists.{zeros-length}
 use borrow.Author.Needs.{needs}
 use Rattle.engine.proofs.divide.split_by_arc.Statement.{statement}
 use Rattle.engine.proofs.divide.split_by_arc.Tie as tie
@@ -49,7 +49,7 @@ part-vertices-end : tie.Need-part-vertices-end
 part-vertices-end c = omega (arith, few-members c)
 
 divide-requires : tie.Need-divide-requires
-divide-requires c κs = (accepted-tree (c .before .before .before .before .before .before), (sized _ (few-members (c .before .before)) ∙ c .before .before .before .before .before .count-members .ensures, length-accepted _ _ (accepted-output (c .before .before))))
+divide-requires c κs = (accepted-tree (c .before .before .before .before .before .before), (zeros-length _ (few-members (c .before .before)) ∙ c .before .before .before .before .before .count-members .ensures, length-accepted _ _ (accepted-output (c .before .before))))
 
 returns-3 : tie.Need-returns-3
 unfolding byArcAnswer byArcList

@@ -13,7 +13,7 @@ use Rattle.answers.proofs.Limits.{members-bound}
 use Rattle.checks.specs.Checked.{checkOf}
 use Rattle.checks.proofs.Opened.{opened, turned-away}
 use Rattle.tree.proofs.Bounds.{sound}
-use Rattle.tree.proofs.Lent.{sized}
+use Rattle.game.proofs.Lists.{zeros-length}
 use Rattle.engine.proofs.LevelAnswer.{tree-turned-down, caps-turned-down, output-turned-down, all-accepted}
 use borrow.Author.Needs.{needs}
 use Rattle.engine.proofs.split.split_level.Statement.{statement}
@@ -67,7 +67,7 @@ split-accepted-requires c κs =
       (
         accepted-caps (c .before .before .before .before .before),
         (
-          sized _ (few-members (c .before .before)) ∙ c .before .before .before .before .before .before .before .before .count-members .ensures,
+          zeros-length _ (few-members (c .before .before)) ∙ c .before .before .before .before .before .before .before .before .count-members .ensures,
           length-accepted _ _ (accepted-output (c .before .before)),
         ),
       ),

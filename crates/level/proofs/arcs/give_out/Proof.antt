@@ -1,8 +1,9 @@
-use Prim.Native.Nat.{ℕ, _-_, _≤_}
+use Prim.Native.Nat.{ℕ, _+_, _-_, _≤_}
 use mathlib.Core.Path.{_≡_, refl, sym, ap, _∙_}
 use mathlib.Core.List.{[]}
 use native.Mathlib.Omega.{arith}
-use lib.ListN.{length, replicate}
+use lib.ListN.{length, getD, replicate}
+use denote.Ref.{now}
 use Rattle.game.specs.Network.{memberCount}
 use Rattle.game.specs.Tree.{treeOf, network}
 use Rattle.answers.proofs.Accepted.{tree-accepted}
@@ -30,13 +31,17 @@ loop-holds c =
       splitting-start _ _ ok (pre .1 .1 .1 .0) refl (c .before .before .write-all .ensures ∙ ap (λ (n : ℕ). replicate n 0) (pre .1 .1 .0)),
     )
 
+-- an arc's part of the layout ends within it
+part-fits : (c : tie.In-loop Inv-loop μ-loop)
+    → getD (now (c .before .before .before .before .before .before .before .before .before .before .before .before .before .args .starts)) (c .before .loop .k - 1) 0 + getD (now (c .before .before .before .before .before .before .before .before .before .before .before .before .before .args .counts)) (c .before .loop .k - 1) 0 ≤ 1023
+part-fits c =
+    let at = c .before .loop in omega (arith, part-within (at .inv .0 .laid) (at .k) (omega arith) (at .inv .1), at .inv .0 .laid .order-sized, few (at .inv .0))
+
 add-to : tie.Need-add-to Inv-loop μ-loop
-add-to c =
-    let at = c .before .before .before .loop in omega (arith, part-within (at .inv .0 .laid) (at .k) (omega arith) (at .inv .1), at .inv .0 .laid .order-sized, few (at .inv .0))
+add-to c = omega (arith, part-fits (c .before .before))
 
 mul-split-arc : tie.Need-mul-split-arc Inv-loop μ-loop
-mul-split-arc c =
-    let at = c .before .before .before .loop in omega (arith, part-within (at .inv .0 .laid) (at .k) (omega arith) (at .inv .1), at .inv .0 .laid .order-sized, few (at .inv .0))
+mul-split-arc c = omega (arith, part-fits (c .before .before))
 
 part-split-arc-end : tie.Need-part-split-arc-end Inv-loop μ-loop
 part-split-arc-end c =

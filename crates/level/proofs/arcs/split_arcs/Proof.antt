@@ -1,7 +1,7 @@
 use native.Mathlib.Omega.{arith}
 use Rattle.answers.proofs.Accepted.{tree-accepted}
 use Rattle.tree.proofs.Bounds.{sound}
-use Rattle.tree.proofs.Lent.{sized}
+use Rattle.game.proofs.Lists.{zeros-length}
 use Rattle.tree.proofs.Vertices.{vertices-few}
 use borrow.Author.Needs.{needs}
 use Rattle.level.proofs.arcs.split_arcs.Statement.{statement}
@@ -20,8 +20,8 @@ split-laid-out-requires : tie.Need-split-laid-out-requires
 split-laid-out-requires c κs =
     let pre = c .before .before .before .before .before .before .before .before .before .pre in
     let ok = sound _ (tree-accepted _ (pre .0)) in
-    let arcs = sized _ (ok .few) in
-    (pre .0, (pre .1 .0, (pre .1 .1 .0, (pre .1 .1 .1 .0, (pre .1 .1 .1 .1, (arcs, (arcs, sized _ (vertices-few _ _ (pre .1 .0) ok))))))))
+    let arcs = zeros-length _ (ok .few) in
+    (pre .0, (pre .1 .0, (pre .1 .1 .0, (pre .1 .1 .1 .0, (pre .1 .1 .1 .1, (arcs, (arcs, zeros-length _ (vertices-few _ _ (pre .1 .0) ok))))))))
 
 pub split-arcs-spec : {M : Type 1} → statement M
 split-arcs-spec =

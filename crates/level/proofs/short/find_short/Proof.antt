@@ -2,7 +2,7 @@ use native.Mathlib.Omega.{arith}
 use denote.Ref.{now}
 use Rattle.game.specs.Tree.{treeOf}
 use Rattle.answers.proofs.Accepted.{tree-accepted}
-use Rattle.tree.proofs.Lent.{sized}
+use Rattle.game.proofs.Lists.{zeros-length}
 use borrow.Author.Needs.{needs}
 use Rattle.level.proofs.short.find_short.Statement.{statement}
 use Rattle.level.proofs.short.find_short.Tie as tie
@@ -15,7 +15,7 @@ part-sums-end c = omega (arith, tree-accepted (treeOf (now (c .before .before .b
 
 compare-requires : tie.Need-compare-requires
 compare-requires c κs = let pre = c .before .before .before .before .before .before .pre in
-    let few = tree-accepted _ (pre .0) .few in (pre .0, (pre .1 .0, (pre .1 .1, (sized _ few, sized _ few))))
+    let few = tree-accepted _ (pre .0) .few in (pre .0, (pre .1 .0, (pre .1 .1, (zeros-length _ few, zeros-length _ few))))
 
 pub find-short-spec : {M : Type 1} → statement M
 find-short-spec =

@@ -1,4 +1,4 @@
-use Prim.Native.Nat.{ℕ, _-_}
+use Prim.Native.Nat.{ℕ, _-_, _≤_}
 use mathlib.Core.Path.{_≡_, ap, _∙_}
 use native.Mathlib.Omega.{arith}
 use denote.Ref.{now}
@@ -6,33 +6,36 @@ use lib.ListN.{length, take, replicate}
 use Rattle.game.specs.Tree.{treeOf}
 use Rattle.text.proofs.Pieces.{put-then}
 use Rattle.report_text.specs.Report.{blank}
-use Rattle.report_text.proofs.Found.{zeros}
+use Rattle.report_text.proofs.Found.{few-members, zeros}
 use borrow.Author.Needs.{needs}
 use Rattle.report_text.proofs.accepted.put_job.Statement.{statement}
 use Rattle.report_text.proofs.accepted.put_job.Tie as tie
 
+few : (c : tie.Start) → length (now (c .args .proposed)) ≤ 1023
+few c = few-members _ _ (c .pre .0) (c .pre .1 .0)
+
 part-vertices-end : tie.Need-part-vertices-end
-part-vertices-end c = omega (arith, c .before .before .before .before .before .before .before .before .pre .1 .1 .1 .0)
+part-vertices-end c = omega (arith, few (c .before .before .before .before .before .before .before .before))
 
 part-by-arc-end : tie.Need-part-by-arc-end
-part-by-arc-end c = omega (arith, c .before .before .before .before .before .before .before .before .before .pre .1 .1 .1 .0)
+part-by-arc-end c = omega (arith, few (c .before .before .before .before .before .before .before .before .before))
 
 part-shares-end : tie.Need-part-shares-end
-part-shares-end c = omega (arith, c .before .before .before .before .before .before .before .before .before .before .pre .1 .1 .1 .0)
+part-shares-end c = omega (arith, few (c .before .before .before .before .before .before .before .before .before .before))
 
 put-tree-requires : tie.Need-put-tree-requires
 put-tree-requires c κs =
     let pre = c .before .before .before .before .before .pre in
-    (pre .0, (pre .1 .0, (pre .1 .1 .0, (pre .1 .1 .1 .0, omega (arith, pre .1 .1 .1 .1)))))
+    (pre .0, (pre .1 .0, omega (arith, pre .1 .1)))
 
 blanks : (c : tie.Start) → take {A = ℕ} (length (now (c .args .proposed)) - 0) (replicate 1023 0) ≡ blank (treeOf (now (c .args .parents)) (now (c .args .costs)))
-blanks c = zeros _ (c .pre .1 .1 .1 .0) ∙ ap (λ (n : ℕ). replicate n 0) (c .pre .1 .0)
+blanks c = zeros _ (few c) ∙ ap (λ (n : ℕ). replicate n 0) (c .pre .1 .0)
 
 put-splits-requires : tie.Need-put-splits-requires
 put-splits-requires c κs =
     let start = c .before .before .before .before .before .before .before .before .before .before .before .before in
     let first = c .before .before .before .before .before .before .put-tree .ensures in
-    (start .pre .0, (start .pre .1 .0, (blanks start, (blanks start, (blanks start, omega (arith, start .pre .1 .1, first .0 .same-length, first .1))))))
+    (start .pre .0, (start .pre .1 .0, (blanks start, (blanks start, (blanks start, omega (arith, few start, start .pre .1 .1, first .0 .same-length, first .1))))))
 
 returns : tie.Need-returns
 returns c = put-then (c .before .before .before .before .before .before .before .before .before .before .before .before .put-tree .ensures .0) (c .before .before .before .before .before .put-splits .ensures)

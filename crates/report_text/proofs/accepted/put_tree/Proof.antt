@@ -1,25 +1,25 @@
-use mathlib.Core.Path.{ap, _∙_}
 use native.Mathlib.Omega.{arith}
-use lib.ListN.{length, length-replicate}
-use Rattle.report_text.proofs.Found.{zeros}
+use Rattle.game.proofs.Lists.{zeros-length}
+use Rattle.answers.proofs.Accepted.{tree-accepted}
+use Rattle.report_text.proofs.Found.{few-members}
 use Rattle.report_text.proofs.Joined.{tree-joined}
 use borrow.Author.Needs.{needs}
 use Rattle.report_text.proofs.accepted.put_tree.Statement.{statement}
 use Rattle.report_text.proofs.accepted.put_tree.Tie as tie
 
 part-needs-end : tie.Need-part-needs-end
-part-needs-end c = omega (arith, c .before .before .before .pre .1 .1 .0)
+part-needs-end c = omega (arith, tree-accepted _ (c .before .before .before .pre .0) .few)
 
 put-cost-requires : tie.Need-put-cost-requires
 put-cost-requires c κs =
     let start = c .before .before .before .before .before in
-    (start .pre .0, (ap length (zeros _ (start .pre .1 .1 .0)) ∙ length-replicate _ 0, omega (arith, start .pre)))
+    (start .pre .0, (zeros-length _ (tree-accepted _ (start .pre .0) .few), omega (arith, start .pre)))
 
 put-audit-requires : tie.Need-put-audit-requires
 put-audit-requires c κs =
     let start = c .before .before .before .before .before .before .before .before .before .before .before in
     let cost = c .before .before .before .before .before .put-cost .ensures in
-    (start .pre .1 .1 .1 .0, omega (arith, start .pre, cost .0 .same-length, cost .1))
+    (few-members _ _ (start .pre .0) (start .pre .1 .0), omega (arith, start .pre, cost .0 .same-length, cost .1))
 
 returns : tie.Need-returns
 returns c =

@@ -37,11 +37,11 @@ sub-j c =
 few : (c : tie.After-one-if-member Inv-loop μ-loop) → c .before .before .loop .j ≤ 1023
 few c = let at = c .before .before .loop in costing-few _ (c .before .before .before .before .before .args .t3) (at .inv .0) _ (at .k - 1 - 1) (omega arith) (omega arith) (at .inv .3)
 
-mul-in-word : tie.Need-mul-in-word Inv-loop μ-loop
-mul-in-word c = omega (arith, few c)
+mul-bit-of : tie.Need-mul-bit-of Inv-loop μ-loop
+mul-bit-of c = omega (arith, few c)
 
-array-read-in-word : tie.Need-array-read-in-word Inv-loop μ-loop
-array-read-in-word c = omega (arith, few c)
+array-read-bit-of : tie.Need-array-read-bit-of Inv-loop μ-loop
+array-read-bit-of c = omega (arith, few c)
 
 -- whether the turn's arc is used
 here-used : (c : tie.After-used-here Inv-loop μ-loop)
@@ -52,7 +52,7 @@ unfolding bit
 here-used c =
     let at = c .before .before .before .before .loop in
     c .used-here .ensures
-    ∙ ap (λ (b : Bool). cond (getD (at .has-child) (at .k - 1) false) (getD (at .used) (at .k - 1) false) b) (c .before .in-word .ensures)
+    ∙ ap (λ (b : Bool). cond (getD (at .has-child) (at .k - 1) false) (getD (at .used) (at .k - 1) false) b) (c .before .bit-of .ensures)
     ∙ costing-used _ (c .before .before .before .before .before .before .before .args .t3) (at .inv .0) _ (at .k - 1 - 1) (omega arith) (omega arith) (at .inv .3) _
     (costing-number _ _ (at .inv .0) _ (at .k - 1 - 1) (omega arith) (omega arith) (at .inv .3) _ (c .before .before .one-if-member .ensures))
 
@@ -104,8 +104,8 @@ cost-of-spec =
     sub-j
     (λ c. search needs)
     (λ c. search needs)
-    mul-in-word
-    array-read-in-word
+    mul-bit-of
+    array-read-bit-of
     (λ c κs. search needs)
     (λ c κs. search needs)
     (λ c. search needs)

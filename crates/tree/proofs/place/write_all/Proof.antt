@@ -4,8 +4,8 @@ use native.Mathlib.Omega.{arith}
 use lib.ListN.{length, replicate, length-replicate, getD-replicate}
 use borrow.Author.Needs.{needs}
 use Rattle.tree.proofs.Filling.{Filling, filling-start, filling-on, filling-end}
-use Rattle.tree.proofs.caps.write_all.Statement.{statement}
-use Rattle.tree.proofs.caps.write_all.Tie as tie
+use Rattle.tree.proofs.place.write_all.Statement.{statement}
+use Rattle.tree.proofs.place.write_all.Tie as tie
 
 abbrev Inv-loop : tie.InvT-loop
 Inv-loop out₀ value i₀ out i = Filling (length out₀) (λ u. value) out i

@@ -1,0 +1,152 @@
+//! Each entry of the archive beside the same in Rust: answers and lists
+//! compared, or the time of a call taken.
+
+use crate::measure::medians;
+use crate::networks::Network;
+use crate::reference::ARCS;
+use crate::{best, ffi, same};
+use std::hint::black_box;
+
+pub const ENTRIES: [&str; 5] = ["needs", "audit", "by-arc", "level", "job reader"];
+
+pub const LEVEL: usize = 3;
+
+/// Microseconds of a call.
+#[derive(Clone, Copy)]
+pub struct Times {
+    pub engine: f64,
+    pub same: f64,
+    /// The other algorithm of the level split.
+    pub best: Option<f64>,
+}
+
+/// The lists that the job reader fills.
+#[derive(Debug, PartialEq)]
+struct Lists {
+    parents: [u16; ARCS],
+    costs: [u32; ARCS],
+    caps: [u64; ARCS],
+    proposals: [i64; ARCS],
+}
+
+const LISTS: Lists = Lists {
+    parents: [7; ARCS],
+    costs: [7; ARCS],
+    caps: [7; ARCS],
+    proposals: [7; ARCS],
+};
+
+type Read = fn(&[u8], &mut [u16], &mut [u32], &mut [u64], &mut [i64]) -> ffi::ZilqodurJob;
+
+impl Lists {
+    fn fill(&mut self, read: Read, bytes: &[u8]) -> ffi::ZilqodurJob {
+        read(
+            bytes,
+            &mut self.parents,
+            &mut self.costs,
+            &mut self.caps,
+            &mut self.proposals,
+        )
+    }
+}
+
+/// A call's answer with the list that it wrote.
+fn written<T>(length: usize, call: impl Fn(&mut [u64]) -> T) -> (T, Vec<u64>) {
+    let mut out = vec![7; length];
+    (call(&mut out), out)
+}
+
+/// Panics where two answers or lists differ.
+pub fn compare(n: &Network) {
+    let (p, c, caps) = (&n.parents[..], &n.costs[..], &n.caps[..]);
+    assert_eq!(
+        written(p.len(), |out| ffi::list_needs(p, c, out)),
+        written(p.len(), |out| same::list_needs(p, c, out)),
+    );
+    assert_eq!(
+        ffi::audit(p, c, &n.proposal),
+        same::audit(p, c, &n.proposal)
+    );
+    assert_eq!(
+        written(n.members, |out| ffi::split_by_arc(p, c, out)),
+        written(n.members, |out| same::split_by_arc(p, c, out)),
+    );
+    let level = written(n.members, |out| ffi::split_level(p, c, caps, out));
+    let same = written(n.members, |out| same::split_level(p, c, caps, out));
+    assert_eq!(level, same);
+    let best = written(n.members, |out| best::split_level(p, c, caps, out));
+    assert_eq!(level, best);
+    let (mut a, mut b) = (LISTS, LISTS);
+    let read = a.fill(ffi::read_job, &n.job);
+    assert_eq!(read, b.fill(same::read_job, &n.job));
+    assert!(a == b, "the job readers fill other lists");
+}
+
+/// Keeps the compiler from leaving out a call whose answer nobody reads.
+fn used<T>(answer: T) {
+    black_box(answer);
+}
+
+/// The calls of one entry on a network: the engine's, the same algorithm's and,
+/// of the level split, the best one's.
+type Calls<'a> = Vec<Box<dyn FnMut() + 'a>>;
+
+fn needs(n: &Network) -> Calls<'_> {
+    let (p, c) = (&n.parents[..], &n.costs[..]);
+    let (mut a, mut b) = (vec![0; p.len()], vec![0; p.len()]);
+    vec![
+        Box::new(move || used(ffi::list_needs(black_box(p), c, &mut a))),
+        Box::new(move || used(same::list_needs(black_box(p), c, &mut b))),
+    ]
+}
+
+fn audit(n: &Network) -> Calls<'_> {
+    let (p, c, x) = (&n.parents[..], &n.costs[..], &n.proposal[..]);
+    vec![
+        Box::new(move || used(ffi::audit(black_box(p), c, x))),
+        Box::new(move || used(same::audit(black_box(p), c, x))),
+    ]
+}
+
+fn by_arc(n: &Network) -> Calls<'_> {
+    let (p, c) = (&n.parents[..], &n.costs[..]);
+    let (mut a, mut b) = (vec![0; n.members], vec![0; n.members]);
+    vec![
+        Box::new(move || used(ffi::split_by_arc(black_box(p), c, &mut a))),
+        Box::new(move || used(same::split_by_arc(black_box(p), c, &mut b))),
+    ]
+}
+
+fn level(n: &Network) -> Calls<'_> {
+    let (p, c, caps) = (&n.parents[..], &n.costs[..], &n.caps[..]);
+    let (mut a, mut b, mut d) = (vec![0; n.members], vec![0; n.members], vec![0; n.members]);
+    vec![
+        Box::new(move || used(ffi::split_level(black_box(p), c, caps, &mut a))),
+        Box::new(move || used(same::split_level(black_box(p), c, caps, &mut b))),
+        Box::new(move || used(best::split_level(black_box(p), c, caps, &mut d))),
+    ]
+}
+
+fn job(n: &Network) -> Calls<'_> {
+    let (mut a, mut b) = (LISTS, LISTS);
+    vec![
+        Box::new(move || used(a.fill(ffi::read_job, black_box(&n.job)))),
+        Box::new(move || used(b.fill(same::read_job, black_box(&n.job)))),
+    ]
+}
+
+/// The calls of each entry, in the order of their names.
+const CALLS: [fn(&Network) -> Calls<'_>; 5] = [needs, audit, by_arc, level, job];
+
+/// The times of one entry on each of the networks.
+pub fn measure(entry: usize, networks: &[Network]) -> Vec<Times> {
+    let mut calls: Calls = networks.iter().flat_map(CALLS[entry]).collect();
+    let medians = medians(&mut calls);
+    let times = |sides: &[f64]| Times {
+        engine: sides[0],
+        same: sides[1],
+        best: sides.get(2).copied(),
+    };
+    let sides = medians.len() / networks.len();
+    medians.chunks(sides).map(times).collect()
+}

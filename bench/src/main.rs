@@ -1,0 +1,91 @@
+//! Times the archive's entries against the same algorithms in Rust, and the
+//! level split against another algorithm besides. Prints Markdown tables.
+//!
+//!     bench          compares the answers on each measured network, then times
+//!     bench quick    compares the answers on many networks, and times nothing
+//!
+//! Ends in a panic where two answers differ. All sides run in turn on the same
+//! lists.
+
+mod best;
+mod entries;
+#[allow(dead_code)]
+#[path = "../../outside/src/ffi.rs"]
+mod ffi;
+#[allow(dead_code)]
+#[path = "../../outside/src/job.rs"]
+mod job;
+mod measure;
+mod networks;
+mod page;
+#[allow(dead_code)]
+#[path = "../../outside/src/reference.rs"]
+mod reference;
+#[allow(dead_code)]
+#[path = "../../outside/src/rng.rs"]
+mod rng;
+mod same;
+
+use entries::ENTRIES;
+use networks::{Caps, Network, Shape, SHAPES};
+use page::Row;
+use reference::{ARCS, COST};
+
+const SIZES: [usize; 3] = [15, 127, ARCS];
+
+fn main() {
+    match std::env::args().nth(1).as_deref() {
+        None => measure(),
+        Some("quick") => println!("bench: {} networks, no difference", compare()),
+        Some(word) => panic!("bench or bench quick, and not {word}"),
+    }
+}
+
+/// Compares the answers; tells on how many networks.
+fn compare() -> usize {
+    let mut networks = 0;
+    for (shape, _) in SHAPES {
+        for arcs in [
+            1, 2, 3, 5, 9, 15, 40, 63, 64, 65, 66, 127, 128, 129, 300, ARCS,
+        ] {
+            for caps in [Caps::Near, Caps::Around, Caps::Greatest] {
+                for most_cost in [1, 3, 20, 1_000_000, COST] {
+                    let seed = networks as u64;
+                    entries::compare(&Network::new(shape, arcs, seed, caps, most_cost));
+                    networks += 1;
+                }
+            }
+        }
+    }
+    networks
+}
+
+/// One shape at all sizes.
+fn measure_shape(shape: Shape, name: &'static str) -> Vec<Row> {
+    let network = |&m: &usize| Network::new(shape, m, m as u64, Caps::Near, COST);
+    let networks: Vec<Network> = SIZES.iter().map(network).collect();
+    networks.iter().for_each(entries::compare);
+    let times: Vec<_> = (0..ENTRIES.len())
+        .map(|entry| entries::measure(entry, &networks))
+        .collect();
+    let row = |(i, network): (usize, &Network)| Row {
+        network: name,
+        arcs: network.parents.len(),
+        users: network.users,
+        job: network.job.len(),
+        times: times.iter().map(|entry| entry[i]).collect(),
+    };
+    networks.iter().enumerate().map(row).collect()
+}
+
+fn measure() {
+    let shapes = SHAPES.iter();
+    let rows: Vec<Row> = shapes
+        .flat_map(|&(shape, name)| measure_shape(shape, name))
+        .collect();
+    page::print_summary(&rows);
+    for entry in 0..ENTRIES.len() {
+        page::print_entry(&rows, entry);
+    }
+    page::print_growth(&rows, SIZES[1], SIZES[2]);
+}

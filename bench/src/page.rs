@@ -1,0 +1,105 @@
+//! The tables, as Markdown.
+
+use crate::entries::{Times, ENTRIES, LEVEL};
+
+/// What was measured on one network.
+pub struct Row {
+    pub network: &'static str,
+    pub arcs: usize,
+    /// The sum over all arcs of the number of their users.
+    pub users: usize,
+    /// The number of bytes of the job.
+    pub job: usize,
+    /// The times of each entry.
+    pub times: Vec<Times>,
+}
+
+impl Row {
+    fn ratio(&self, entry: usize) -> f64 {
+        self.times[entry].engine / self.times[entry].same
+    }
+}
+
+/// Thousands are set off by commas.
+fn number(n: usize) -> String {
+    match n {
+        0..=999 => n.to_string(),
+        _ => format!("{},{:03}", number(n / 1_000), n % 1_000),
+    }
+}
+
+fn micros(time: f64) -> String {
+    match time {
+        ..1.0 => format!("{time:.3}"),
+        ..10.0 => format!("{time:.2}"),
+        ..1_000.0 => format!("{time:.1}"),
+        _ => number(time.round() as usize),
+    }
+}
+
+/// The least, middle and greatest ratio of each entry.
+pub fn print_summary(rows: &[Row]) {
+    println!("## In short\n");
+    println!("Time of the engine over time of the same algorithm in Rust, over all networks and sizes.\n");
+    println!("| Entry | Least | Median | Greatest | Greatest on |");
+    println!("|---|--:|--:|--:|---|");
+    for (entry, name) in ENTRIES.iter().enumerate() {
+        let mut order: Vec<&Row> = rows.iter().collect();
+        order.sort_by(|a, b| a.ratio(entry).total_cmp(&b.ratio(entry)));
+        let (first, middle, last) = (order[0], order[rows.len() / 2], order[rows.len() - 1]);
+        print!(
+            "| {name} | {:.2} | {:.2} ",
+            first.ratio(entry),
+            middle.ratio(entry)
+        );
+        println!(
+            "| {:.2} | {}, m = {} |",
+            last.ratio(entry),
+            last.network,
+            number(last.arcs)
+        );
+    }
+}
+
+/// One entry on all networks.
+pub fn print_entry(rows: &[Row], entry: usize) {
+    println!("\n## {}\n", ENTRIES[entry]);
+    let (more, line) = match entry {
+        LEVEL => (" Best µs | Engine over best |", "--:|--:|"),
+        _ => ("", ""),
+    };
+    println!("| Network | m | Engine µs | Same algorithm µs | Ratio |{more}");
+    println!("|---|--:|--:|--:|--:|{line}");
+    for row in rows {
+        let times = row.times[entry];
+        print!("| {} | {} ", row.network, number(row.arcs));
+        print!("| {} | {} ", micros(times.engine), micros(times.same));
+        print!("| {:.2} |", row.ratio(entry));
+        if let Some(best) = times.best {
+            print!(" {} | {:.1} |", micros(best), times.engine / best);
+        }
+        println!();
+    }
+}
+
+/// Times and sizes at the last number of arcs over those at the one before.
+pub fn print_growth(rows: &[Row], from: usize, to: usize) {
+    println!(
+        "\n## Growth from m = {} to m = {}\n",
+        number(from),
+        number(to)
+    );
+    println!("| Network | Arcs | needs | audit | Job bytes | job reader | Sum of users | by-arc | level | level, best |");
+    println!("|---|--:|--:|--:|--:|--:|--:|--:|--:|--:|");
+    let at = |arcs| rows.iter().filter(move |row| row.arcs == arcs);
+    for (a, b) in at(from).zip(at(to)) {
+        let engine = |entry: usize| b.times[entry].engine / a.times[entry].engine;
+        let best = |row: &Row| row.times[LEVEL].best.unwrap();
+        let factor = |a: usize, b: usize| b as f64 / a as f64;
+        print!("| {} | {:.1} ", a.network, factor(from, to));
+        print!("| {:.1} | {:.1} ", engine(0), engine(1));
+        print!("| {:.1} | {:.1} ", factor(a.job, b.job), engine(4));
+        print!("| {:.1} | {:.1} ", factor(a.users, b.users), engine(2));
+        println!("| {:.1} | {:.1} |", engine(LEVEL), best(b) / best(a));
+    }
+}
