@@ -69,7 +69,7 @@ static int is_report(ZilqodurReport found, uint32_t refusal, size_t place, size_
            offsetof(ZilqodurReport, place) == 8;
 }
 
-/* No struct has more fields than the archive writes. */
+/* No struct is larger than the archive's. */
 static void sizes(void) {
     EXPECT(sizeof(ZilqodurCheck) == 16 && sizeof(ZilqodurMembers) == 24 && sizeof(ZilqodurNeeds) == 32 && sizeof(ZilqodurGroup) == 32);
     EXPECT(sizeof(ZilqodurAudit) == 176 && sizeof(ZilqodurLevel) == 32 && sizeof(ZilqodurJob) == 40 && sizeof(ZilqodurReport) == 24);
@@ -189,12 +189,14 @@ static ZilqodurJob read_job(const uint8_t *job, size_t size, size_t proposals) {
 static void jobs(void) {
     uint8_t job[JOB_BYTES + 5];
     size_t size = write_job(job, 5);
+    job_parents[ARCS] = 7, job_costs[ARCS] = 7, job_caps[MEMBERS] = 7, job_proposals[MEMBERS] = 7;
     EXPECT(is_job(read_job(job, size, ZILQODUR_MOST_ARCS - 1), ZILQODUR_JOB_ROOM, 0, 0, 0, 0));
     EXPECT(is_job(read_job(job, 15, ZILQODUR_MOST_ARCS), ZILQODUR_JOB_SIZE, 0, 0, 0, 0));
-    EXPECT(job_costs[0] == 0 && job_caps[0] == 0 && job_proposals[0] == 0);
+    EXPECT(job_parents[1] == 0 && job_costs[0] == 0 && job_caps[0] == 0 && job_proposals[0] == 0);
     EXPECT(is_job(read_job(job, size, ZILQODUR_MOST_ARCS), ZILQODUR_NO_REFUSAL, 0, ARCS, MEMBERS, 5));
     EXPECT(memcmp(job_parents, parents, sizeof parents) == 0 && memcmp(job_costs, costs, sizeof costs) == 0);
     EXPECT(are(job_caps, 100, 100, 100) && job_proposals[0] == 8 && job_proposals[1] == 4 && job_proposals[2] == 4);
+    EXPECT(job_parents[ARCS] == 7 && job_costs[ARCS] == 7 && job_caps[MEMBERS] == 7 && job_proposals[MEMBERS] == 7);
 }
 
 static void wrong_jobs(void) {
@@ -221,8 +223,9 @@ static void reports(void) {
     uint8_t job[JOB_BYTES];
     size_t size = write_job(job, 0);
     EXPECT(sizeof out == 196608);
+    memset(out, '#', sizeof out);
     EXPECT(is_report(zilqodur_report(job, size, out), ZILQODUR_NO_REFUSAL, 0, sizeof text - 1));
-    EXPECT(memcmp(out, text, sizeof text) == 0);
+    EXPECT(memcmp(out, text, sizeof text - 1) == 0 && out[sizeof text - 1] == '#' && out[sizeof out - 1] == '#');
 }
 
 /* A star of arcs of the greatest cost: sums beyond 32 bits, and the last word of a group. */

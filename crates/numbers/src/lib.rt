@@ -1,4 +1,4 @@
-// Small choices between numbers, so that the loops that use them have no branch, a bit of a word, and signed numbers by their parts and bits.
+// A bit of a word; signed numbers by their parts and bits; and small choices between numbers, so that the loops that use them have no branch.
 mod signed;
 
 pub use signed::minus;

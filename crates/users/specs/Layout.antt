@@ -21,6 +21,7 @@ pub record Begins (m : ℕ) (parent count start : ℕ → ℕ) : Type 0 where
   pub source : start 0 ≡ 0
   pub after : (i : ℕ) → i < m → start (suc i) ≡ start (parent (suc i)) + leaving parent count (parent (suc i)) i
 
+-- one start an arc, and each arc's users begin as above
 pub record Begun (parents counts starts : List ℕ) : Type 0 where
   pub kept : length starts ≡ length parents
   pub begins : Begins (length parents) (ofArc parents) (ofArc counts) (ofArc starts)
