@@ -1,5 +1,8 @@
 // The commands: their names, and how many fields their lines have.
 use cases::field;
+ghost use mathlib.Core.Path.{_≡_};
+ghost use Rattle.text.specs.Ascii.{ascii};
+ghost use Rattle.vectors.specs.Commands.{Named, fieldCount};
 
 pub enum Command {
     Check,
@@ -16,7 +19,9 @@ pub enum Command {
     Unknown,
 }
 
-pub fn named(name: &[u8]) -> Command {
+pub fn named(name: &[u8]) -> Command
+    ensures { λ r. ⌜ Named (ascii "check count members needs group audit shares level caps byarc job") (now (name .entry)) r ⌝ }
+{
     match field::find(
         b"check count members needs group audit shares level caps byarc job",
         11,
@@ -38,7 +43,9 @@ pub fn named(name: &[u8]) -> Command {
 }
 
 // How many fields a command's line has; none is right for an unknown command.
-pub fn fields(c: Command) -> usize {
+pub fn fields(c: Command) -> usize
+    ensures { λ r. ⌜ r ≡ fieldCount c ⌝ }
+{
     match c {
         Command::Check => 3,
         Command::Count => 3,
