@@ -1,31 +1,17 @@
--- What it means that a check, and a tree, is accepted.
+-- What it means that a tree, and the length of an output list, is accepted.
 use Prim.Native.Nat.{ℕ, zero, suc, _+_, _≤_, _<_}
-use mathlib.Core.Path.{_≡_, refl}
-use mathlib.Core.Bool.{Bool, true, false, _||_, not}
+use mathlib.Core.Path.{_≡_}
+use mathlib.Core.Bool.{Bool, false, _||_, not}
 use mathlib.Core.List.{List, [], _∷_}
 use native.Mathlib.Omega.{arith}
 use borrow.Author.Tests.{eqb-true, ltb-false, leb-false, not-false}
 use lib.ListN.{length, getD}
 use lib.Dec.{eqb, ltb, leb}
 use Rattle.game.specs.Tree.{Tree, ofArc}
-use Rattle.game.proofs.Bools.{neither-second}
-use Rattle.answers.specs.Answer.{Check, accepted, refused, fault, _then_, value, refusal, answer}
+use Rattle.basics.proofs.Bools.{neither-second}
+use Rattle.answer_forms.specs.Answer.{Check, accepted, fault, _then_}
+use Rattle.answer_forms.proofs.Composed.{first-accepted, second-accepted, no-fault}
 use Rattle.answers.specs.Checks.{mostArcs, mostCost, arcCheck, arcsCheck, treeCheck, lengthCheck}
-
-not-refused : {number place : ℕ} → refused number place ≡ accepted → ⊥
-not-refused e = let z : _≡_ {A = ℕ} 0 1 = cc in omega arith
-
-pub first-accepted : (a b : Check) → (a then b) ≡ accepted → a ≡ accepted
-first-accepted accepted b e = refl
-first-accepted (refused number place) b e = e
-
-pub second-accepted : (a b : Check) → (a then b) ≡ accepted → b ≡ accepted
-second-accepted accepted b e = e
-second-accepted (refused number place) b e = absurd (not-refused e)
-
-pub no-fault : (b : Bool) (number place : ℕ) → fault b number place ≡ accepted → b ≡ false
-no-fault true number place e = absurd (not-refused e)
-no-fault false number place e = refl
 
 -- arcs from k on: each parent is below its arc, each cost within its limit
 pub record Arcs (k : ℕ) (parents costs : List ℕ) : Type 0 where
@@ -102,13 +88,3 @@ tree-accepted t e =
 -- an output list that is accepted has the length of what is written
 pub length-accepted : (wanted found : ℕ) → lengthCheck wanted found ≡ accepted → found ≡ wanted
 length-accepted wanted found e = eqb-true found wanted (not-false (eqb found wanted) (no-fault (not (eqb found wanted)) 8 0 e))
-
--- an answer that is a value: the check finds nothing
-pub answered : {A : Type 0} (check : Check) (x v : A) → answer check x ≡ value v → (check ≡ accepted) × (v ≡ x)
-answered accepted x v e = (refl, cc)
-answered (refused number place) x v e = let z : _≡_ {A = ℕ} 0 1 = cc in absurd (omega arith)
-
--- an answer that is a refusal: the check found it
-pub refused-answer : {A : Type 0} (check : Check) (x : A) {number place : ℕ} → refusal number place ≡ answer check x → check ≡ refused number place
-refused-answer accepted x e = let z : _≡_ {A = ℕ} 0 1 = cc in absurd (omega arith)
-refused-answer (refused number place) x e = cc

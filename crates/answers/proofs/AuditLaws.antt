@@ -12,20 +12,23 @@ use lib.Signed.{_≤ℤ_, ≤ℤ-refl}
 use lib.Dec.{ltb, leb→le, le→leb}
 use Rattle.game.specs.Network.{Network, memberCount, wholeCost, groupCost}
 use Rattle.game.specs.Tree.{Tree, network}
-use Rattle.game.specs.Group.{bit, byNumber, size, wordsOf}
+use Rattle.basics.specs.Bit.{bit}
+use Rattle.game.specs.Group.{byNumber, wordsOf}
+use Rattle.basics.specs.Sum.{size}
 use Rattle.game.specs.Proposal.{pays, overpayment, difference}
 use Rattle.game.specs.Search.{isIn, named}
-use Rattle.game.proofs.Bools.{both, clash}
-use Rattle.game.proofs.Sizes.{size-same}
+use Rattle.basics.proofs.Bools.{both, clash}
+use Rattle.basics.proofs.Sizes.{size-same}
 use Rattle.game.proofs.Encoding.{bit-of-words, bit-beyond}
-use Rattle.game.proofs.Integers.{le-trans-ℤ, minus-le, le-minus, minus-is, is-minus}
+use Rattle.basics.proofs.Integers.{le-trans-ℤ, minus-le, le-minus, minus-is, is-minus}
 use Rattle.game.proofs.Overpayment.{overpayment-same}
 use Rattle.game.proofs.Search.{named-good, named-part, named-ends}
-use Rattle.answers.specs.Answer.{Answer, value, accepted}
+use Rattle.answer_forms.specs.Answer.{Answer, value, accepted}
 use Rattle.answers.specs.Checks.{treeCheck, proposalCheck}
 use Rattle.answers.specs.Audit.{Verdict, wrongTotal, objection, pass, isZero, groupVerdict, searchVerdict, verdict, auditCheck, auditAnswer, auditWords, wordsBeside}
 use Rattle.answers.specs.AuditLaws.{ObjectionLaws, AuditStatement, theGroup}
-use Rattle.answers.proofs.Accepted.{first-accepted, tree-accepted}
+use Rattle.answer_forms.proofs.Composed.{first-accepted}
+use Rattle.answers.proofs.Accepted.{tree-accepted}
 use Rattle.answers.proofs.Limits.{members-bound}
 
 pub is-zero : (x : ℤ) → isZero x ≡ true → x ≡ pos 0

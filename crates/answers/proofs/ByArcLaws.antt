@@ -11,7 +11,7 @@ use Rattle.game.specs.Tree.{Tree, network}
 use Rattle.game.specs.Core.{Core}
 use Rattle.game.specs.ByArc.{userCount, gift, byArc}
 use Rattle.game.specs.Shapley.{Even}
-use Rattle.game.proofs.Sums.{In, sum-mono, term-le}
+use Rattle.basics.proofs.Sums.{In, sum-mono, term-le}
 use Rattle.game.proofs.DeadEnds.{tree-ends, every-arc-used}
 use Rattle.game.proofs.Core.{need-to-core}
 use Rattle.game.proofs.Shapley.{shapley-by-arcs, whole-part}
@@ -19,13 +19,14 @@ use Rattle.game.proofs.Even.{even-near}
 use Rattle.game.proofs.Gifts.{gift-even}
 use Rattle.game.proofs.EvenCore.{even-core}
 use Rattle.game.proofs.ByArc.{used-count, by-arc-length, by-arc-at}
-use Rattle.answers.specs.Answer.{Check, accepted, written}
+use Rattle.answer_forms.specs.Answer.{Check, accepted, written}
 use Rattle.answers.specs.Checks.{treeCheck, outputCheck, mostShare, outsideShare}
 use Rattle.answers.specs.Members.{membersCheck}
 use Rattle.answers.specs.Audit.{auditCheck}
 use Rattle.answers.specs.ByArc.{byArcList}
 use Rattle.answers.specs.ByArcLaws.{ByArcStatement}
-use Rattle.answers.proofs.Accepted.{Accepted, first-accepted, tree-accepted}
+use Rattle.answers.proofs.Accepted.{Accepted, tree-accepted}
+use Rattle.answer_forms.proofs.Composed.{first-accepted}
 use Rattle.answers.proofs.Limits.{whole-bound}
 use Rattle.answers.proofs.InRange.{in-range}
 use Rattle.answers.proofs.CoreLaws.{members-end}

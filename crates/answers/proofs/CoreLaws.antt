@@ -6,8 +6,9 @@ use borrow.Author.Tests.{not-true}
 use lib.IntN.{ℤ, pos}
 use lib.Signed.{_≤ℤ_}
 use native.Mathlib.Omega.{arith}
-use Rattle.game.specs.Proposal.{share, minus}
-use Rattle.game.proofs.Integers.{less-le, less-parts}
+use Rattle.game.specs.Proposal.{share}
+use Rattle.basics.specs.Integer.{minus}
+use Rattle.basics.proofs.Integers.{less-le, less-parts}
 use Rattle.game.specs.Tree.{Tree, network, ofArc, hasChild}
 use Rattle.game.proofs.Excess.{MembersEnd}
 use Rattle.game.proofs.DeadEnds.{tree-ends, unused-free}

@@ -9,7 +9,7 @@ use lib.Dec.{eqb}
 use Rattle.game.specs.Network.{number}
 use Rattle.game.specs.Tree.{network, ofArc, hasChild}
 use Rattle.game.specs.Group.{byNumber}
-use Rattle.game.proofs.Sums.{In}
+use Rattle.basics.proofs.Sums.{In}
 use Rattle.game.proofs.Below.{sum-below-children}
 use Rattle.game.proofs.Groups
 use Rattle.game.proofs.Users

@@ -8,16 +8,17 @@ use native.Mathlib.Omega.{arith}
 use lib.ListN.{getD, List·getD-map, length-map}
 use lib.IntN.{ℤ, pos, negsuc, _*ℤ_}
 use lib.Signed.{_≤ℤ_}
-use Rattle.game.specs.Sum.{pick}
+use Rattle.basics.specs.Sum.{pick}
 use Rattle.game.specs.Network.{atOrBelow, need, number, memberCount, sumBelow, wholeCost}
 use Rattle.game.specs.Tree.{Tree, network}
-use Rattle.game.specs.Proposal.{plus, minus, share}
+use Rattle.basics.specs.Integer.{plus, minus}
+use Rattle.game.specs.Proposal.{share}
 use Rattle.game.specs.Core.{CoreByNeed}
 use Rattle.game.specs.Level.{level}
-use Rattle.game.proofs.Bools.{both, pick-yes, pick-no, pick-both-le}
-use Rattle.game.proofs.Sums.{In, sum-cong, sum-mono}
+use Rattle.basics.proofs.Bools.{both, pick-yes, pick-no, pick-both-le}
+use Rattle.basics.proofs.Sums.{In, sum-cong, sum-mono}
 use Rattle.game.proofs.Below.{Rooted}
-use Rattle.game.proofs.Integers.{less-parts, less-le, le-less, sum-pos-ℤ}
+use Rattle.basics.proofs.Integers.{less-parts, less-le, le-less, sum-pos-ℤ}
 use Rattle.game.proofs.Overpayment.{over-at, members-sum, number-lt}
 use Rattle.game.proofs.Numbering.{vertex-of}
 use Rattle.game.proofs.NaturalShares.{natural-core}
@@ -25,11 +26,12 @@ use Rattle.game.proofs.Core.{users-by-vertex, core-to-bound, bound-to-need, nee
 use Rattle.game.proofs.Bump.{squares}
 use Rattle.game.proofs.LevelRule.{Reached, Admits, reached-total}
 use Rattle.game.proofs.LevelList.{view, view-off, Stands, level-stands}
-use Rattle.answers.specs.Answer.{Check, accepted, _then_}
+use Rattle.answer_forms.specs.Answer.{Check, accepted, _then_}
 use Rattle.answers.specs.Checks.{treeCheck, outputCheck}
 use Rattle.answers.specs.Level.{LevelAnswer, split, refusal, capSum, shortArc, splitOr9, capsCheck, levelOr, levelCheck, levelAnswer, levelList, listAfter}
 use Rattle.answers.specs.LevelLaws.{Fits, squareSum, ShortAt, LevelLaws, Demand3}
-use Rattle.answers.proofs.Accepted.{first-accepted, tree-accepted}
+use Rattle.answer_forms.proofs.Composed.{first-accepted}
+use Rattle.answers.proofs.Accepted.{tree-accepted}
 use Rattle.answers.proofs.CoreLaws.{members-end}
 use Rattle.answers.proofs.ShortArc.{FirstShort, none-short, first-short}
 

@@ -4,7 +4,7 @@ use native.Mathlib.Omega.{arith}
 use lib.ListN.{length}
 use Rattle.game.specs.Network.{wholeCost, memberCount}
 use Rattle.game.specs.Tree.{Tree, network, ofArc}
-use Rattle.game.proofs.Sums.{sum-bound, count-le}
+use Rattle.basics.proofs.Sums.{sum-bound, count-le}
 use Rattle.answers.specs.Checks.{mostCost}
 use Rattle.answers.proofs.Accepted.{Accepted}
 

@@ -9,8 +9,8 @@ use native.Mathlib.Omega.{arith}
 use borrow.Author.Tests.{ltb-true, ltb-false}
 use lib.Dec.{ltb}
 use Rattle.game.specs.Network.{Network, need}
-use Rattle.game.proofs.Bools.{both}
-use Rattle.game.proofs.Sums.{In, in-cases}
+use Rattle.basics.proofs.Bools.{both}
+use Rattle.basics.proofs.Sums.{In, in-cases}
 use Rattle.answers.specs.Level.{capSum, shortArc}
 
 module _ (n : Network) (caps : List ℕ) where

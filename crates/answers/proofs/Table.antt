@@ -2,7 +2,9 @@
 use mathlib.Core.Path.{refl}
 use Rattle.game.specs.Network.{climb, used, groupCost, sumBelow, wholeCost, membersTo}
 use Rattle.game.specs.Tree.{hasChild}
-use Rattle.game.specs.Group.{bit, size, wordsOf}
+use Rattle.basics.specs.Bit.{bit}
+use Rattle.basics.specs.Sum.{size}
+use Rattle.game.specs.Group.{wordsOf}
 use Rattle.game.specs.Proposal.{pays}
 use Rattle.game.specs.Search.{groups, best, named}
 use Rattle.answers.specs.Checks.{arcsCheck, treeCheck, bitsCheck, rangeCheck}

@@ -7,10 +7,11 @@ use lib.IntN.{ℤ, pos, negsuc}
 use lib.Dec.{eqb, ltb}
 use Rattle.game.specs.Network.{Network, memberCount}
 use Rattle.game.specs.Tree.{Tree, network}
-use Rattle.game.specs.Group.{size, wordsOf}
+use Rattle.basics.specs.Sum.{size}
+use Rattle.game.specs.Group.{wordsOf}
 use Rattle.game.specs.Proposal.{overpayment, difference}
 use Rattle.game.specs.Search.{isIn, named}
-use Rattle.answers.specs.Answer.{Check, Answer, value, refusal, _then_, answer}
+use Rattle.answer_forms.specs.Answer.{Check, Answer, value, refusal, _then_, answer}
 use Rattle.answers.specs.Checks.{treeCheck, proposalCheck}
 
 pub data Verdict : Type 0 where

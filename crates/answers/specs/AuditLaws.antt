@@ -8,9 +8,10 @@ use lib.IntN.{ℤ, pos}
 use lib.Signed.{_≤ℤ_}
 use Rattle.game.specs.Network.{memberCount, wholeCost}
 use Rattle.game.specs.Tree.{Tree, network}
-use Rattle.game.specs.Group.{bit, size}
+use Rattle.basics.specs.Bit.{bit}
+use Rattle.basics.specs.Sum.{size}
 use Rattle.game.specs.Proposal.{pays, overpayment, difference}
-use Rattle.answers.specs.Answer.{value, accepted}
+use Rattle.answer_forms.specs.Answer.{value, accepted}
 use Rattle.answers.specs.Laws.{costOf, PartOf}
 use Rattle.answers.specs.Audit.{wrongTotal, objection, pass, auditCheck, auditAnswer, auditWords}
 

@@ -4,7 +4,7 @@ use mathlib.Core.List.{List}
 use Rattle.game.specs.Network.{memberCount}
 use Rattle.game.specs.Tree.{Tree, network}
 use Rattle.game.specs.ByArc.{byArc}
-use Rattle.answers.specs.Answer.{Answer, answer, written}
+use Rattle.answer_forms.specs.Answer.{Answer, answer, written}
 use Rattle.answers.specs.Members.{membersCheck}
 
 -- the number of members

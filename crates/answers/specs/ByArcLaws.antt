@@ -4,13 +4,13 @@ use mathlib.Core.Path.{_≡_}
 use mathlib.Core.List.{List, map}
 use lib.ListN.{length, getD}
 use lib.IntN.{pos}
-use Rattle.game.specs.Sum.{pick, sum}
+use Rattle.basics.specs.Sum.{pick, sum}
 use Rattle.game.specs.Network.{memberCount}
 use Rattle.game.specs.Tree.{Tree, network}
 use Rattle.game.specs.Core.{users, Core}
 use Rattle.game.specs.ByArc.{userCount}
 use Rattle.game.specs.Shapley.{factorial, shapley, pathLength, Within}
-use Rattle.answers.specs.Answer.{value, accepted}
+use Rattle.answer_forms.specs.Answer.{value, accepted}
 use Rattle.answers.specs.Laws.{ArcOf}
 use Rattle.answers.specs.Members.{membersCheck}
 use Rattle.answers.specs.Audit.{pass, auditAnswer}

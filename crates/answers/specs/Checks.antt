@@ -6,8 +6,8 @@ use lib.ListN.{length}
 use lib.IntN.{ℤ, natAbs}
 use lib.Dec.{eqb, ltb, leb}
 use Rattle.game.specs.Tree.{Tree}
-use Rattle.game.specs.Group.{bit}
-use Rattle.answers.specs.Answer.{Check, accepted, fault, _then_}
+use Rattle.basics.specs.Bit.{bit}
+use Rattle.answer_forms.specs.Answer.{Check, accepted, fault, _then_}
 
 -- the most arcs, and the greatest cost of one
 abbrev pub mostArcs : ℕ

@@ -10,7 +10,7 @@ use Rattle.game.specs.Network.{atOrBelow, user, need, memberCount}
 use Rattle.game.specs.Tree.{Tree, network, ofArc}
 use Rattle.game.specs.Proposal.{share}
 use Rattle.game.specs.Core.{bound, onlyTheirs, Core, CoreByBound, CoreByNeed}
-use Rattle.answers.specs.Answer.{accepted}
+use Rattle.answer_forms.specs.Answer.{accepted}
 use Rattle.answers.specs.Checks.{treeCheck}
 use Rattle.answers.specs.Laws.{ArcOf}
 

@@ -3,8 +3,10 @@ use Prim.Native.Nat.{ℕ}
 use mathlib.Core.List.{List}
 use Rattle.game.specs.Network.{groupCost, memberCount}
 use Rattle.game.specs.Tree.{Tree, network}
-use Rattle.game.specs.Group.{bit, byNumber, size}
-use Rattle.answers.specs.Answer.{Answer, _then_, answer}
+use Rattle.basics.specs.Bit.{bit}
+use Rattle.game.specs.Group.{byNumber}
+use Rattle.basics.specs.Sum.{size}
+use Rattle.answer_forms.specs.Answer.{Answer, _then_, answer}
 use Rattle.answers.specs.Checks.{treeCheck, groupCheck}
 
 pub record GroupCostValue : Type 0 where

@@ -4,11 +4,11 @@ use mathlib.Core.Path.{_≡_}
 use mathlib.Core.Bool.{Bool, true, false, not, _&&_}
 use lib.ListN.{length, getD}
 use lib.Dec.{eqb}
-use Rattle.game.specs.Sum.{pick, sum, count}
+use Rattle.basics.specs.Sum.{pick, sum, count}
 use Rattle.game.specs.Network.{user, used, groupCost, everyone, need, wholeCost, number, members}
 use Rattle.game.specs.Tree.{Tree, network, ofArc, hasChild}
 use Rattle.game.specs.Group.{byNumber}
-use Rattle.answers.specs.Answer.{accepted}
+use Rattle.answer_forms.specs.Answer.{accepted}
 use Rattle.answers.specs.Checks.{treeCheck}
 
 -- k is the number of an arc, and of the vertex that it enters

@@ -5,22 +5,17 @@ use mathlib.Core.Bool.{Bool, cond}
 use mathlib.Core.List.{List}
 use lib.ListN.{length, getD}
 use lib.Dec.{ltb}
-use Rattle.game.specs.Sum.{pick}
+use Rattle.basics.specs.Sum.{pick}
 use Rattle.game.specs.Network.{Network, sumBelow, need, number, memberCount}
 use Rattle.game.specs.Tree.{Tree, network}
 use Rattle.game.specs.Level.{level}
-use Rattle.answers.specs.Answer.{Check, accepted, refused, _then_}
+use Rattle.answer_forms.specs.Answer.{Check, accepted, refused, _then_}
 use Rattle.answers.specs.Checks.{treeCheck, mostShare, memberListCheck, outputCheck}
 
 -- the split's answer: the number of members, or a refusal with the shortfall, which is 0 except with 9
 pub data LevelAnswer : Type 0 where
   split : (members : ℕ) → LevelAnswer
   refusal : (number place shortfall : ℕ) → LevelAnswer
-
--- one cap a member, none above the limit
-pub record Capped (members : ℕ) (caps : List ℕ) : Type 0 where
-  pub sized : length caps ≡ members
-  pub limited : (j : ℕ) → getD caps j 0 ≤ mostShare
 
 -- what the caps of an arc's users add up to
 abbrev pub capSum : Network → List ℕ → ℕ → ℕ

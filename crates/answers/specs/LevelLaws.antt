@@ -9,9 +9,10 @@ use lib.IntN.{ℤ, pos, _*ℤ_}
 use lib.Signed.{_≤ℤ_}
 use Rattle.game.specs.Network.{memberCount, need}
 use Rattle.game.specs.Tree.{Tree, network}
-use Rattle.game.specs.Proposal.{share, sumℤ}
+use Rattle.game.specs.Proposal.{share}
+use Rattle.basics.specs.Integer.{sumℤ}
 use Rattle.game.specs.Core.{Core}
-use Rattle.answers.specs.Answer.{accepted}
+use Rattle.answer_forms.specs.Answer.{accepted}
 use Rattle.answers.specs.Laws.{ArcOf}
 use Rattle.answers.specs.Level.{split, refusal, capSum, levelCheck, levelAnswer, levelList}
 

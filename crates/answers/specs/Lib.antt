@@ -1,4 +1,3 @@
-pub mod Answer
 pub mod Checks
 pub mod Members
 pub mod Needs

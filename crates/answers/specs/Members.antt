@@ -3,7 +3,7 @@ use Prim.Native.Nat.{ℕ}
 use mathlib.Core.List.{List}
 use Rattle.game.specs.Network.{memberCount, members}
 use Rattle.game.specs.Tree.{Tree, network}
-use Rattle.answers.specs.Answer.{Check, Answer, _then_, answer, written}
+use Rattle.answer_forms.specs.Answer.{Check, Answer, _then_, answer, written}
 use Rattle.answers.specs.Checks.{treeCheck, outputCheck}
 
 unfoldable pub memberCountAnswer : Tree → Answer ℕ

@@ -2,10 +2,10 @@
 use Prim.Native.Nat.{ℕ}
 use mathlib.Core.List.{List}
 use lib.ListN.{length}
-use Rattle.game.specs.Sum.{list}
+use Rattle.basics.specs.Sum.{list}
 use Rattle.game.specs.Network.{need, wholeCost, memberCount}
 use Rattle.game.specs.Tree.{Tree, network}
-use Rattle.answers.specs.Answer.{Check, Answer, _then_, answer, written}
+use Rattle.answer_forms.specs.Answer.{Check, Answer, _then_, answer, written}
 use Rattle.answers.specs.Checks.{treeCheck, outputCheck}
 
 pub record NeedsValue : Type 0 where

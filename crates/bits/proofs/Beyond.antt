@@ -6,10 +6,11 @@ use mathlib.Core.List.{List}
 use native.Mathlib.Nat.{add-zero, sub-zero, zero-sub, suc-sub-suc}
 use native.Mathlib.Numerals.{add-one}
 use native.Mathlib.Omega.{arith}
-use Rattle.game.specs.Group.{bit, size}
-use Rattle.answers.specs.Answer.{Check, accepted, refused, fault, _then_}
+use Rattle.basics.specs.Bit.{bit}
+use Rattle.basics.specs.Sum.{size}
+use Rattle.answer_forms.specs.Answer.{Check, accepted, refused, fault, _then_}
 use Rattle.answers.specs.Checks.{bitsCheck, groupCheck}
-use Rattle.game.proofs.Sizes.{size-more}
+use Rattle.basics.proofs.Sizes.{size-more}
 
 -- where the r bits from bit j on are clear, the search goes on behind them
 pub bits-skip : (words : List ℕ) (r f j : ℕ) → ((k : ℕ) → j ≤ k → k < j + r → bit words k ≡ false) → bitsCheck words f j ≡ bitsCheck words (f - r) (j + r)

@@ -11,8 +11,9 @@ use lib.Bits.{bitOr, or-shr, or-step}
 use lib.Dec.{eqb, eqb·zero-suc, eqb·suc-zero, eqb·suc-suc}
 use lib.ListN.{length, getD, set}
 use lib.Seq.{getD-set-same, getD-set-other}
-use Rattle.game.specs.Group.{digit, bit, wordsOf}
-use Rattle.game.proofs.Bools.{same-test}
+use Rattle.basics.specs.Bit.{digit, bit}
+use Rattle.game.specs.Group.{wordsOf}
+use Rattle.basics.proofs.Bools.{same-test}
 use Rattle.game.proofs.Encoding.{digit-half}
 
 either : (p q : ℕ) → p < 2 → q < 2 → eqb (max p q) 1 ≡ (eqb p 1 || eqb q 1)

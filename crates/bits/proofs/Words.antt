@@ -9,8 +9,9 @@ use native.Mathlib.Omega.{arith}
 use lib.ListN.{getD}
 use lib.Pow.{shr-shr, shr-lt}
 use lib.Count.{ones, ones-step}
-use Rattle.game.specs.Group.{digit, bit, size}
-use Rattle.game.proofs.Sizes.{size-split, size-same}
+use Rattle.basics.specs.Bit.{digit, bit}
+use Rattle.basics.specs.Sum.{size}
+use Rattle.basics.proofs.Sizes.{size-split, size-same}
 use Rattle.game.proofs.Encoding.{lowest, digit-half, bit-at}
 
 -- where a word shifted down by j is 0, no bit from bit j to the word's end is set

@@ -4,11 +4,13 @@ ghost use mathlib.Core.Path.{_≡_};
 ghost use mathlib.Core.Bool.{_&&_, _||_};
 ghost use Prim.Native.Nat.{ℕ, _<_};
 ghost use lib.Dec.{eqb, ltb};
-ghost use Rattle.game.specs.Group.{digit, bit, size, wordsOf};
+ghost use Rattle.basics.specs.Bit.{digit, bit};
+ghost use Rattle.basics.specs.Sum.{size};
+ghost use Rattle.game.specs.Group.{wordsOf};
 ghost use Rattle.answers.specs.Checks.{groupCheck};
-ghost use Rattle.checks.specs.Checked.{checkOf};
+ghost use Rattle.answer_forms.specs.Checked.{checkOf};
 ghost use Rattle.bits.specs.Words.{ClearRun};
-use checks::Checked;
+use answer_forms::Checked;
 
 // The word with bit i set.
 fn set_in_word(word: u64, i: usize) -> u64
@@ -71,7 +73,7 @@ pub fn check_group(members: usize, words: [u64; 16]) -> Checked
     while j < 1024 {
         let clear = clear_run(words, j);
         if clear == 0 {
-            return checks::refuse(5, j);
+            return answer_forms::refuse(5, j);
         }
         j += clear;
     }

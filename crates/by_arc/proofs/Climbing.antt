@@ -9,13 +9,13 @@ use borrow.Author.Tests.{eq-eqb, ne-eqb, lt-ltb, le-ltb}
 use lib.ListN.{length, getD, set, length-set}
 use lib.Seq.{getD-set-same, getD-set-other}
 use lib.Dec.{eqb, ltb}
-use Rattle.game.specs.Sum.{pick}
+use Rattle.basics.specs.Sum.{pick}
 use Rattle.game.specs.Network.{Network, atOrBelow}
 use Rattle.game.specs.Tree.{treeOf, network, ofArc}
-use Rattle.game.proofs.Bools.{eqb-comm, pick-yes, pick-no, pick-le}
-use Rattle.game.proofs.Sums.{sum-cong, sum-add, sum-zero, sum-at, sum-bound}
+use Rattle.basics.proofs.Bools.{eqb-comm, pick-yes, pick-no, pick-le}
+use Rattle.basics.proofs.Sums.{sum-cong, sum-add, sum-zero, sum-at, sum-bound}
 use Rattle.game.proofs.Below.{Rooted, below-source, below-pick}
-use Rattle.game.proofs.Lists.{list-is}
+use Rattle.basics.proofs.Lists.{list-is}
 use Rattle.tree.specs.Passes.{Sound}
 use Rattle.by_arc.specs.Parts.{Parts, given, sumAbove, oneLess}
 

@@ -5,13 +5,14 @@ use mathlib.Core.List.{List, []}
 use native.Mathlib.Numerals.{add-one}
 use native.Mathlib.Omega.{arith}
 use lib.ListN.{length, getD, set}
-use Rattle.game.specs.Sum.{pick, list}
+use Rattle.basics.specs.Sum.{pick, list}
 use Rattle.game.specs.Network.{Network, atOrBelow, members}
 use Rattle.game.specs.Tree.{treeOf, network, ofArc}
 use Rattle.game.specs.Core.{users}
-use Rattle.game.proofs.Sums.{In, sum-cong}
-use Rattle.game.proofs.Sizes.{size-more, size-none}
-use Rattle.game.proofs.Lists.{list-length, of-list}
+use Rattle.basics.proofs.Sums.{In, sum-cong}
+use Rattle.basics.proofs.Sizes.{size-more, size-none}
+use Rattle.basics.proofs.Lists.{list-length}
+use Rattle.game.proofs.ArcEntries.{of-list}
 use Rattle.tree.proofs.Filling.{Filling, filling-start, filling-on, filling-list}
 use Rattle.by_arc.specs.Parts.{Parts, given, sumAbove, oneLess, left, dealt}
 

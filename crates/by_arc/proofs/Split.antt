@@ -5,14 +5,14 @@ use mathlib.Core.List.{List, []}
 use native.Mathlib.Nat.{div-le-self}
 use native.Mathlib.Omega.{arith}
 use lib.ListN.{length, getD}
-use Rattle.game.specs.Sum.{pick, list}
+use Rattle.basics.specs.Sum.{pick, list, size}
 use Rattle.game.specs.Network.{Network, memberCount}
 use Rattle.game.specs.Tree.{Tree, treeOf, network, ofArc}
-use Rattle.game.specs.Group.{size}
 use Rattle.game.specs.Core.{users}
 use Rattle.game.specs.ByArc.{userCount, byArc}
-use Rattle.game.proofs.Sums.{In, sum-cong}
-use Rattle.game.proofs.Lists.{list-length, list-at, list-is, of-list}
+use Rattle.basics.proofs.Sums.{In, sum-cong}
+use Rattle.basics.proofs.Lists.{list-length, list-at, list-is}
+use Rattle.game.proofs.ArcEntries.{of-list}
 use Rattle.game.proofs.ByArc.{by-arc-length, by-arc-at}
 use Rattle.answers.proofs.Accepted.{Accepted}
 use Rattle.answers.proofs.ByArcLaws.{some-users}

@@ -3,10 +3,9 @@ use Prim.Native.Nat.{ℕ, _+_, _-_, _≤_, _<_, min}
 use mathlib.Core.Path.{_≡_}
 use mathlib.Core.List.{List}
 use lib.ListN.{length, getD}
-use Rattle.game.specs.Sum.{pick, sum, list}
+use Rattle.basics.specs.Sum.{pick, sum, list, size}
 use Rattle.game.specs.Network.{Network, atOrBelow, members}
 use Rattle.game.specs.Tree.{ofArc}
-use Rattle.game.specs.Group.{size}
 use Rattle.game.specs.Core.{users}
 use Rattle.answers.specs.Checks.{mostCost}
 

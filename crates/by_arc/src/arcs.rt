@@ -7,7 +7,7 @@ ghost use lib.ListN.{length};
 ghost use Rattle.game.specs.Network.{members};
 ghost use Rattle.game.specs.Tree.{treeOf, network};
 ghost use Rattle.game.specs.ByArc.{byArc};
-ghost use Rattle.answers.specs.Answer.{accepted};
+ghost use Rattle.answer_forms.specs.Answer.{accepted};
 ghost use Rattle.answers.specs.Checks.{treeCheck};
 
 // The last three lists are room for the numbers of users, their parts and the units left over; the shares serve first as room for the counts.

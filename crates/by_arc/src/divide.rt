@@ -2,7 +2,7 @@
 ghost use mathlib.Core.Path.{_≡_};
 ghost use Prim.Native.Nat.{ℕ, _/_, _%_, _<_};
 ghost use lib.ListN.{length, getD};
-ghost use Rattle.game.specs.Sum.{list};
+ghost use Rattle.basics.specs.Sum.{list};
 ghost use Rattle.game.specs.Tree.{ofArc};
 
 // Writes for each arc a user's part of its cost, and the units left over.

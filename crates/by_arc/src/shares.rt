@@ -3,7 +3,7 @@ ghost use mathlib.Core.Path.{_≡_};
 ghost use Prim.Native.Nat.{_≤_, pred};
 ghost use mathlib.Core.List.{[]};
 ghost use lib.ListN.{length};
-ghost use Rattle.game.specs.Sum.{list};
+ghost use Rattle.basics.specs.Sum.{list};
 ghost use Rattle.game.specs.Network.{members};
 ghost use Rattle.game.specs.Tree.{treeOf, network, ofArc};
 ghost use Rattle.tree.specs.Passes.{Sound};

@@ -6,8 +6,8 @@ use mathlib.Core.List.{List, [], _∷_}
 use lib.ListN.{length}
 use lib.Dec.{eqb, ltb, leb}
 use Rattle.game.specs.Tree.{Tree}
-use Rattle.game.specs.Group.{bit}
-use Rattle.answers.specs.Answer.{Check, accepted, refused, fault, _then_}
+use Rattle.basics.specs.Bit.{bit}
+use Rattle.answer_forms.specs.Answer.{Check, accepted, refused, fault, _then_}
 use Rattle.answers.specs.Checks.{mostArcs, mostCost, arcCheck, arcsCheck, treeCheck, bitsCheck, rangeCheck, memberListCheck, outputCheck, outsideShare}
 use Rattle.answers.specs.Level.{outsideCap}
 use Rattle.job_bytes.specs.Format.{arcOffset, memberOffset, version, closing0, closing1, jobArcs, jobMembers, jobCaps, jobProposals, fillerAt}

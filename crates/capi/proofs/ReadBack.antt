@@ -7,7 +7,7 @@ use lib.IntN.{ℤ}
 use native.Mathlib.Omega.{arith}
 use Rattle.game.specs.Network.{Network, memberCount}
 use Rattle.game.specs.Tree.{Tree, network}
-use Rattle.answers.specs.Answer.{Check, accepted, refused, Answer, value, refusal, _then_, answer}
+use Rattle.answer_forms.specs.Answer.{Check, accepted, refused, Answer, value, refusal, _then_, answer}
 use Rattle.answers.specs.Checks.{treeCheck, groupCheck, outputCheck, proposalCheck, outsideShare}
 use Rattle.answers.specs.Members.{memberCountAnswer, membersCheck, membersAnswer}
 use Rattle.answers.specs.Needs.{needsAnswer}

@@ -1,10 +1,10 @@
 // The checks on a tree, on caps and on a proposal.
-use checks::Checked;
+use answer_forms::Checked;
 ghost use mathlib.Core.Path.{_≡_};
 ghost use Rattle.game.specs.Tree.{treeOf};
 ghost use Rattle.answers.specs.Checks.{treeCheck, proposalCheck};
 ghost use Rattle.answers.specs.Level.{capsCheck};
-ghost use Rattle.checks.specs.Checked.{checkOf};
+ghost use Rattle.answer_forms.specs.Checked.{checkOf};
 ghost use Rattle.capi.specs.Structs.{encodeCheck, decodeCheck};
 
 #[repr(C)]

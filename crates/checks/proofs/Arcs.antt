@@ -5,12 +5,12 @@ use mathlib.Core.List.{List}
 use native.Mathlib.Numerals.{add-one}
 use lib.ListN.{length, getD, drop, drop-of-length-le}
 use lib.Seq.{drop-cons}
-use Rattle.answers.specs.Answer.{Check, accepted, _then_}
+use Rattle.answer_forms.specs.Answer.{Check, accepted, _then_}
 use Rattle.answers.specs.Checks.{arcCheck, arcsCheck}
-use Rattle.checks.specs.Checked.{checkOf}
-use Rattle.checks.specs.declared.Refusal.{Refusal}
-use Rattle.checks.specs.declared.Checked.{Checked}
-use Rattle.checks.specs.declared.Checked.the-variants.{Accepted, Refused}
+use Rattle.answer_forms.specs.Checked.{checkOf}
+use Rattle.answer_forms.specs.declared.Refusal.{Refusal}
+use Rattle.answer_forms.specs.declared.Checked.{Checked}
+use Rattle.answer_forms.specs.declared.Checked.the-variants.{Accepted, Refused}
 
 arcs-step : (k i : ℕ) (ps cs : List ℕ) → i < length ps → i < length cs
     → arcsCheck k (drop i ps) (drop i cs) ≡ (arcCheck k (getD ps i 0) (getD cs i 0) then arcsCheck (k + 1) (drop (i + 1) ps) (drop (i + 1) cs))

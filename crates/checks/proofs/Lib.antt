@@ -1,3 +1,3 @@
 mod Arcs
 pub mod Range
-pub mod Opened
+mod ShareRange

@@ -8,13 +8,13 @@ use borrow.Author.Tests.{eqb-true, not-false}
 use lib.Dec.{eqb}
 use lib.ListN.{length, getD, drop, drop-of-length-le}
 use lib.Seq.{drop-cons}
-use Rattle.answers.specs.Answer.{Check, accepted, fault, _then_}
+use Rattle.answer_forms.specs.Answer.{Check, accepted, fault, _then_}
 use Rattle.answers.specs.Checks.{rangeCheck, memberListCheck}
-use Rattle.answers.proofs.Accepted.{first-accepted, second-accepted, no-fault}
-use Rattle.checks.specs.Checked.{checkOf}
-use Rattle.checks.specs.declared.Refusal.{Refusal}
-use Rattle.checks.specs.declared.Checked.{Checked}
-use Rattle.checks.specs.declared.Checked.the-variants.{Accepted, Refused}
+use Rattle.answer_forms.proofs.Composed.{first-accepted, second-accepted, no-fault}
+use Rattle.answer_forms.specs.Checked.{checkOf}
+use Rattle.answer_forms.specs.declared.Refusal.{Refusal}
+use Rattle.answer_forms.specs.declared.Checked.{Checked}
+use Rattle.answer_forms.specs.declared.Checked.the-variants.{Accepted, Refused}
 
 pub range-end : {A : Type 0} (outside : A → Bool) (j i : ℕ) (l : List A) → length l ≤ i → rangeCheck outside j (drop i l) ≡ accepted
 unfolding rangeCheck

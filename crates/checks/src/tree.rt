@@ -1,11 +1,11 @@
 // The tree check: 1, 2, then 3 and 4 arc by arc.
-use crate::Checked;
-use crate::refuse;
+use answer_forms::Checked;
+use answer_forms::refuse;
 ghost use mathlib.Core.Path.{_≡_};
 ghost use lib.ListN.{length};
 ghost use Rattle.game.specs.Tree.{treeOf};
 ghost use Rattle.answers.specs.Checks.{treeCheck, arcsCheck, arcCheck};
-ghost use Rattle.checks.specs.Checked.{checkOf};
+ghost use Rattle.answer_forms.specs.Checked.{checkOf};
 
 // The most arcs of a tree, and the greatest cost of one.
 const MOST_ARCS: usize = 1023;

@@ -9,7 +9,7 @@ use Rattle.game.specs.Tree.{Tree, network}
 use Rattle.game.specs.Group.{wordsOf}
 use Rattle.game.specs.Proposal.{difference}
 use Rattle.game.specs.Search.{isIn, named}
-use Rattle.answers.specs.Answer.{Answer, value, refusal, accepted, refused}
+use Rattle.answer_forms.specs.Answer.{Answer, value, refusal, accepted, refused}
 use Rattle.answers.specs.Checks.{treeCheck, proposalCheck}
 use Rattle.answers.specs.Audit.{Verdict, wrongTotal, isZero, searchVerdict, verdict, auditCheck, wordsBeside, auditAnswer, auditWords}
 

@@ -6,7 +6,7 @@ use lib.ListN.{length}
 use Rattle.game.specs.Network.{Network, memberCount}
 use Rattle.game.specs.Tree.{Tree, network, ofArc}
 use Rattle.game.specs.Level.{level}
-use Rattle.answers.specs.Answer.{accepted, refused}
+use Rattle.answer_forms.specs.Answer.{accepted, refused}
 use Rattle.answers.specs.Checks.{treeCheck, lengthCheck}
 use Rattle.answers.specs.Level.{LevelAnswer, split, refusal, capsCheck, levelCheck, shortArc, splitOr9, listAfter, levelAnswer, levelList}
 use Rattle.answers.proofs.LevelLaws.{not-both}

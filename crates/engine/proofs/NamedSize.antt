@@ -6,9 +6,11 @@ use native.Mathlib.Nat.{add-zero}
 use native.Mathlib.Omega.{arith}
 use lib.IntN.{ℤ}
 use Rattle.game.specs.Network.{Network, memberCount}
-use Rattle.game.specs.Group.{bit, size, wordsOf}
+use Rattle.basics.specs.Bit.{bit}
+use Rattle.basics.specs.Sum.{size}
+use Rattle.game.specs.Group.{wordsOf}
 use Rattle.game.specs.Search.{isIn, named}
-use Rattle.game.proofs.Sizes.{size-same, size-split, size-none}
+use Rattle.basics.proofs.Sizes.{size-same, size-split, size-none}
 use Rattle.game.proofs.Encoding.{bit-of-words}
 use Rattle.game.proofs.Search.{named-ends}
 

@@ -1,14 +1,14 @@
 -- Two answers of an entry that stand for the same value or refusal are the same: each answer can be read back.
 use Prim.Native.Nat.{ℕ}
 use mathlib.Core.Path.{_≡_, refl, sym, ap, _∙_}
-use Rattle.answers.specs.Answer.{Answer, value, refusal, Check, accepted, refused}
+use Rattle.answer_forms.specs.Answer.{Answer, value, refusal, Check, accepted, refused}
 use Rattle.answers.specs.Needs.{NeedsValue}
 use Rattle.answers.specs.GroupCost.{GroupCostValue}
 use Rattle.answers.specs.Audit.{Verdict, wrongTotal, objection, pass}
 use Rattle.answers.specs.Level.{LevelAnswer, split, refusal as notSplit}
-use Rattle.checks.specs.Checked.{checkOf}
-use Rattle.checks.specs.declared.Checked.{Checked}
-use Rattle.checks.specs.declared.Checked.the-variants.{Accepted, Refused as NotAccepted}
+use Rattle.answer_forms.specs.Checked.{checkOf}
+use Rattle.answer_forms.specs.declared.Checked.{Checked}
+use Rattle.answer_forms.specs.declared.Checked.the-variants.{Accepted, Refused as NotAccepted}
 use Rattle.engine.specs.Outcomes.{memberCountOf, needsOf, groupCostOf, auditOf, levelOf}
 use Rattle.engine.specs.declared.members.MemberCount.{MemberCount}
 use Rattle.engine.specs.declared.members.MemberCount.the-variants.{Members, Refused as NoMembers}

@@ -6,11 +6,12 @@ use mathlib.Core.List.{List}
 use native.Mathlib.Omega.{arith}
 use lib.ListN.{length}
 use lib.IntN.{ℤ, pos, subℕ}
-use Rattle.game.specs.Sum.{sum}
+use Rattle.basics.specs.Sum.{sum}
 use Rattle.game.specs.Network.{Network, memberCount, wholeCost}
-use Rattle.game.specs.Proposal.{plus, minus, share, pays, difference}
-use Rattle.game.proofs.Bools.{not-so}
-use Rattle.game.proofs.Integers.{Less, less-parts, less-minus, less-sum, less-sub, less-same, less-is}
+use Rattle.basics.specs.Integer.{plus, minus}
+use Rattle.game.specs.Proposal.{share, pays, difference}
+use Rattle.basics.proofs.Bools.{not-so}
+use Rattle.basics.proofs.Integers.{Less, less-parts, less-minus, less-sum, less-sub, less-same, less-is}
 use Rattle.answers.specs.Audit.{isZero}
 use Rattle.answers.proofs.AuditLaws.{is-zero}
 

@@ -1,6 +1,6 @@
 -- What each case of an entry's answer stands for.
 use Prim.Native.Nat.{ℕ}
-use Rattle.answers.specs.Answer.{Answer, value, refusal}
+use Rattle.answer_forms.specs.Answer.{Answer, value, refusal}
 use Rattle.answers.specs.Needs.{NeedsValue}
 use Rattle.answers.specs.GroupCost.{GroupCostValue}
 use Rattle.answers.specs.Audit.{Verdict, wrongTotal, objection, pass}

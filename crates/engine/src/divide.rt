@@ -1,12 +1,12 @@
 // The by-arc split.
 use crate::members::MemberCount;
-use checks::Checked;
+use answer_forms::Checked;
 ghost use mathlib.Core.Path.{_≡_};
 ghost use lib.ListN.{length};
 ghost use Rattle.game.specs.Network.{memberCount};
 ghost use Rattle.game.specs.Tree.{treeOf, network};
 ghost use Rattle.game.specs.ByArc.{byArc};
-ghost use Rattle.answers.specs.Answer.{accepted};
+ghost use Rattle.answer_forms.specs.Answer.{accepted};
 ghost use Rattle.answers.specs.Checks.{treeCheck};
 ghost use Rattle.answers.specs.ByArc.{byArcAnswer, byArcList};
 ghost use Rattle.engine.specs.Outcomes.{memberCountOf};
@@ -29,12 +29,12 @@ pub fn split_by_arc(parents: &[u16], costs: &[u32], out: &mut [u64]) -> MemberCo
 {
     let tree = checks::check_tree(parents, costs);
     let Checked::Accepted = tree else {
-        return MemberCount::Refused(checks::refusal_of(tree));
+        return MemberCount::Refused(answer_forms::refusal_of(tree));
     };
     let members = tree::count_members(parents);
     let output = checks::check_output(out.len(), members);
     let Checked::Accepted = output else {
-        return MemberCount::Refused(checks::refusal_of(output));
+        return MemberCount::Refused(answer_forms::refusal_of(output));
     };
     let mut vertices = [0u16; 1023];
     divide(parents, costs, &mut vertices[0..members], out);

@@ -1,6 +1,6 @@
 // A group's size and cost.
-use checks::Checked;
-use checks::Refusal;
+use answer_forms::Checked;
+use answer_forms::Refusal;
 ghost use mathlib.Core.Path.{_≡_};
 ghost use Rattle.game.specs.Tree.{treeOf};
 ghost use Rattle.answers.specs.GroupCost.{groupCostAnswer};
@@ -17,12 +17,12 @@ pub fn group_cost(parents: &[u16], costs: &[u32], group: [u64; 16]) -> GroupCost
 {
     let tree = checks::check_tree(parents, costs);
     let Checked::Accepted = tree else {
-        return GroupCost::Refused(checks::refusal_of(tree));
+        return GroupCost::Refused(answer_forms::refusal_of(tree));
     };
     let members = tree::count_members(parents);
     let bits = bits::check_group(members, group);
     let Checked::Accepted = bits else {
-        return GroupCost::Refused(checks::refusal_of(bits));
+        return GroupCost::Refused(answer_forms::refusal_of(bits));
     };
     let size = bits::size_of(group);
     let cost = tree::cost_of(parents, costs, group, members);

@@ -1,6 +1,6 @@
 // The number of members, and the members' vertices in a lent list.
-use checks::Checked;
-use checks::Refusal;
+use answer_forms::Checked;
+use answer_forms::Refusal;
 ghost use mathlib.Core.Path.{_≡_};
 ghost use Rattle.game.specs.Tree.{treeOf};
 ghost use Rattle.answers.specs.Members.{memberCountAnswer, membersAnswer, membersList};
@@ -17,7 +17,7 @@ pub fn count_members(parents: &[u16], costs: &[u32]) -> MemberCount
 {
     let tree = checks::check_tree(parents, costs);
     let Checked::Accepted = tree else {
-        return MemberCount::Refused(checks::refusal_of(tree));
+        return MemberCount::Refused(answer_forms::refusal_of(tree));
     };
     MemberCount::Members(tree::count_members(parents))
 }
@@ -29,12 +29,12 @@ pub fn list_members(parents: &[u16], costs: &[u32], out: &mut [u16]) -> MemberCo
 {
     let tree = checks::check_tree(parents, costs);
     let Checked::Accepted = tree else {
-        return MemberCount::Refused(checks::refusal_of(tree));
+        return MemberCount::Refused(answer_forms::refusal_of(tree));
     };
     let n = tree::count_members(parents);
     let output = checks::check_output(out.len(), n);
     let Checked::Accepted = output else {
-        return MemberCount::Refused(checks::refusal_of(output));
+        return MemberCount::Refused(answer_forms::refusal_of(output));
     };
     tree::write_members(parents, out);
     MemberCount::Members(n)

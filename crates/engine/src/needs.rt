@@ -1,6 +1,6 @@
 // The needs of all arcs in a lent list; the whole cost and the number of members.
-use checks::Checked;
-use checks::Refusal;
+use answer_forms::Checked;
+use answer_forms::Refusal;
 ghost use mathlib.Core.Path.{_≡_};
 ghost use Rattle.game.specs.Tree.{treeOf};
 ghost use Rattle.answers.specs.Needs.{needsAnswer, needsList};
@@ -18,11 +18,11 @@ pub fn list_needs(parents: &[u16], costs: &[u32], out: &mut [u64]) -> NeedsFound
 {
     let tree = checks::check_tree(parents, costs);
     let Checked::Accepted = tree else {
-        return NeedsFound::Refused(checks::refusal_of(tree));
+        return NeedsFound::Refused(answer_forms::refusal_of(tree));
     };
     let output = checks::check_output(out.len(), parents.len());
     let Checked::Accepted = output else {
-        return NeedsFound::Refused(checks::refusal_of(output));
+        return NeedsFound::Refused(answer_forms::refusal_of(output));
     };
     let members = tree::count_members(parents);
     let whole = tree::write_needs(parents, costs, out);

@@ -1,13 +1,13 @@
 // The level split under caps.
-use checks::Checked;
-use checks::Refusal;
+use answer_forms::Checked;
+use answer_forms::Refusal;
 use level::CapsFound;
 ghost use mathlib.Core.Path.{_≡_};
 ghost use lib.ListN.{length};
 ghost use Rattle.game.specs.Network.{memberCount};
 ghost use Rattle.game.specs.Tree.{treeOf, network, ofArc};
 ghost use Rattle.game.specs.Level.{level};
-ghost use Rattle.answers.specs.Answer.{accepted};
+ghost use Rattle.answer_forms.specs.Answer.{accepted};
 ghost use Rattle.answers.specs.Checks.{treeCheck};
 ghost use Rattle.answers.specs.Level.{refusal, capsCheck, shortArc, splitOr9, listAfter, levelAnswer, levelList};
 ghost use Rattle.level.specs.Found.{answerOf};
@@ -80,16 +80,16 @@ pub fn split_level(parents: &[u16], costs: &[u32], caps: &[u64], out: &mut [u64]
 {
     let tree = checks::check_tree(parents, costs);
     let Checked::Accepted = tree else {
-        return refused(checks::refusal_of(tree));
+        return refused(answer_forms::refusal_of(tree));
     };
     let members = tree::count_members(parents);
-    let limits = level::check_caps(members, caps);
+    let limits = checks::check_caps(members, caps);
     let Checked::Accepted = limits else {
-        return refused(checks::refusal_of(limits));
+        return refused(answer_forms::refusal_of(limits));
     };
     let output = checks::check_output(out.len(), members);
     let Checked::Accepted = output else {
-        return refused(checks::refusal_of(output));
+        return refused(answer_forms::refusal_of(output));
     };
     let mut vertices = [0u16; 1023];
     split_accepted(parents, costs, caps, &mut vertices[0..members], out)

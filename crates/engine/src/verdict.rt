@@ -1,12 +1,12 @@
 // The audit of a proposal: its total, then the group that overpays most.
-use checks::Checked;
-use checks::Refusal;
+use answer_forms::Checked;
+use answer_forms::Refusal;
 ghost use mathlib.Core.Path.{_≡_};
 ghost use lib.ListN.{replicate};
 ghost use Rattle.game.specs.Tree.{treeOf, network};
 ghost use Rattle.game.specs.Group.{wordsOf};
 ghost use Rattle.game.specs.Search.{isIn, named};
-ghost use Rattle.answers.specs.Answer.{accepted, value, refusal};
+ghost use Rattle.answer_forms.specs.Answer.{accepted, value, refusal};
 ghost use Rattle.answers.specs.Audit.{auditCheck, searchVerdict, wordsBeside, auditAnswer, auditWords};
 ghost use Rattle.engine.specs.Outcomes.{auditOf};
 
@@ -64,12 +64,12 @@ pub fn audit(parents: &[u16], costs: &[u32], proposal: &[i64]) -> Audited
 {
     let tree = checks::check_tree(parents, costs);
     let Checked::Accepted = tree else {
-        return refused(checks::refusal_of(tree));
+        return refused(answer_forms::refusal_of(tree));
     };
     let members = tree::count_members(parents);
-    let shares = proposal::check_proposal(members, proposal);
+    let shares = checks::check_proposal(members, proposal);
     let Checked::Accepted = shares else {
-        return refused(checks::refusal_of(shares));
+        return refused(answer_forms::refusal_of(shares));
     };
     let parts = proposal::parts_of(proposal);
     let proposed = parts.plus;

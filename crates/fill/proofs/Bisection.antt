@@ -8,7 +8,7 @@ use native.Mathlib.Omega.{arith}
 use borrow.Author.Tests.{le-ltb, ltb-true, ltb-false}
 use lib.ListN.{getD}
 use lib.Dec.{ltb}
-use Rattle.game.proofs.Bools.{both, pick-no}
+use Rattle.basics.proofs.Bools.{both, pick-no}
 use Rattle.users.specs.Users.{total}
 use Rattle.fill.specs.Fill.{mostKey, aim, taken, filled, Greatest}
 use Rattle.fill.proofs.Turns.{took-most}

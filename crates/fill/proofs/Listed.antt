@@ -7,11 +7,11 @@ use native.Mathlib.Omega.{arith}
 use borrow.Author.Tests.{eqb-true, eq-eqb}
 use lib.ListN.{length, getD}
 use lib.Dec.{eqb}
-use Rattle.game.specs.Sum.{pick}
+use Rattle.basics.specs.Sum.{pick}
 use Rattle.game.specs.Network.{Network, memberCount}
 use Rattle.game.specs.Core.{users}
-use Rattle.game.proofs.Bools.{same-test, pick-le, pick-swap}
-use Rattle.game.proofs.Sums.{sum-cong, sum-zero, sum-at, count-le}
+use Rattle.basics.proofs.Bools.{same-test, pick-le, pick-swap}
+use Rattle.basics.proofs.Sums.{sum-cong, sum-zero, sum-at, count-le}
 use Rattle.users.specs.Users.{total, Lists}
 
 total-ones : (us : List ℕ) → total (λ u. 1) us ≡ length us

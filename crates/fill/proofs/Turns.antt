@@ -10,9 +10,9 @@ use borrow.Author.Tests.{eq-eqb, ne-eqb}
 use lib.ListN.{length, getD, drop, drop-of-length-le, length-set}
 use lib.Seq.{drop-cons, getD-set-same, getD-set-other}
 use lib.Dec.{eqb}
-use Rattle.game.specs.Sum.{pick}
+use Rattle.basics.specs.Sum.{pick}
 use Rattle.game.specs.Raise.{took}
-use Rattle.game.proofs.Bools.{pick-yes, pick-no, pick-le, pick-pos}
+use Rattle.basics.proofs.Bools.{pick-yes, pick-no, pick-le, pick-pos}
 use Rattle.game.proofs.Raise.{smaller-is}
 use Rattle.users.specs.Users.{total}
 use Rattle.fill.specs.Fill.{aim, taken, raiseOne, raised}

@@ -7,17 +7,18 @@ use mathlib.Core.List.{List}
 use native.Mathlib.Omega.{arith}
 use lib.IntN.{ℤ, pos}
 use lib.Signed.{_≤ℤ_}
-use Rattle.game.specs.Sum.{pick, sum}
+use Rattle.basics.specs.Sum.{pick, sum}
 use Rattle.game.specs.Network.{Network, groupCost, number, memberCount}
 use Rattle.game.specs.Group.{byNumber}
-use Rattle.game.specs.Proposal.{plus, minus, share, overpayment}
+use Rattle.basics.specs.Integer.{plus, minus}
+use Rattle.game.specs.Proposal.{share, overpayment}
 use Rattle.game.specs.Search.{isIn, named}
-use Rattle.game.proofs.Bools.{both, same-test, pick-yes, pick-no, pick-zero, pick-pos}
-use Rattle.game.proofs.Sums.{In, sum-cong, sum-zero}
+use Rattle.basics.proofs.Bools.{both, same-test, pick-yes, pick-no, pick-zero, pick-pos}
+use Rattle.basics.proofs.Sums.{In, sum-cong, sum-zero}
 use Rattle.game.proofs.Below.{Rooted}
 use Rattle.game.proofs.Certificate.{children, OfMembers}
 use Rattle.game.proofs.Excess.{Excess, Active, MembersEnd, no-children, excess-bound, active-exact, active-part, some-excess}
-use Rattle.game.proofs.Integers.{less-parts, less-same, less-is, less-le, le-less, one-part}
+use Rattle.basics.proofs.Integers.{less-parts, less-same, less-is, less-le, le-less, one-part}
 use Rattle.game.proofs.Overpayment.{over-at, under-at, less-over, cost-same}
 use Rattle.game.proofs.Numbering.{vertex-of}
 use Rattle.game.proofs.Search.{named-good, named-part}

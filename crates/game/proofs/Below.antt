@@ -7,10 +7,10 @@ use native.Mathlib.Nat.{le-refl, zero-add}
 use native.Mathlib.Omega.{arith}
 use borrow.Author.Tests.{eqb-true, eq-eqb, ne-eqb}
 use lib.Dec.{eqb}
-use Rattle.game.specs.Sum.{pick, sum}
+use Rattle.basics.specs.Sum.{pick, sum}
 use Rattle.game.specs.Network.{Network, climb, atOrBelow, sumBelow}
-use Rattle.game.proofs.Bools.{or-first, or-second, or-cases, eqb-comm, pick-either, pick-no, pick-zero, pick-add, pick-yes, pick-swap}
-use Rattle.game.proofs.Sums.{In, sum-cong, sum-add, sum-zero, sum-swap, sum-pick, sum-at}
+use Rattle.basics.proofs.Bools.{or-first, or-second, or-cases, eqb-comm, pick-either, pick-no, pick-zero, pick-add, pick-yes, pick-swap}
+use Rattle.basics.proofs.Sums.{In, sum-cong, sum-add, sum-zero, sum-swap, sum-pick, sum-at}
 
 -- every parent is numbered below its arc
 abbrev pub Rooted : Network → Type 0

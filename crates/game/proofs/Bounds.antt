@@ -6,16 +6,16 @@ use mathlib.Core.Logic.{_⊎_, ⊎-elim}
 use native.Mathlib.Omega.{arith}
 use lib.IntN.{ℤ, pos}
 use lib.Signed.{_≤ℤ_}
-use Rattle.game.specs.Sum.{pick}
+use Rattle.basics.specs.Sum.{pick}
 use Rattle.game.specs.Network.{Network, atOrBelow, user, used, groupCost, everyone, sumBelow, need, wholeCost, number}
 use Rattle.game.specs.Group.{byNumber}
 use Rattle.game.specs.Core.{users, others, bound, onlyTheirs, IsArc}
-use Rattle.game.proofs.Bools.{both, clash, not-so, and-both, and-first, and-second, same-test, pick-mono, pick-zero}
-use Rattle.game.proofs.Sums.{In, sum-cong, sum-mono, sum-parts}
+use Rattle.basics.proofs.Bools.{both, clash, not-so, and-both, and-first, and-second, same-test, pick-mono, pick-zero}
+use Rattle.basics.proofs.Sums.{In, sum-cong, sum-mono, sum-parts}
 use Rattle.game.proofs.Below.{Rooted, below-trans, below-cases, below-comparable, below-le, below-self}
 use Rattle.game.proofs.Groups.{UsedBy, used-of, used-by}
 use Rattle.game.proofs.Numbering.{member-at}
-use Rattle.game.proofs.Integers.{Less, less-parts, less-minus, less-same, less-le}
+use Rattle.basics.proofs.Integers.{Less, less-parts, less-minus, less-same, less-le}
 
 -- k's parent has a user that is no user of k
 pub record OtherUser (n : Network) (k : ℕ) : Type 0 where

@@ -6,10 +6,10 @@ use mathlib.Core.Logic.{⊎-elim}
 use native.Mathlib.Omega.{arith}
 use borrow.Author.Tests.{eqb-true, eq-eqb}
 use lib.Dec.{eqb}
-use Rattle.game.specs.Sum.{pick, sum}
+use Rattle.basics.specs.Sum.{pick, sum}
 use Rattle.game.specs.Network.{Network, atOrBelow, sumBelow}
-use Rattle.game.proofs.Bools.{both, eqb-comm, pick-add, pick-swap}
-use Rattle.game.proofs.Sums.{In, sum-cong, sum-add, sum-at}
+use Rattle.basics.proofs.Bools.{both, eqb-comm, pick-add, pick-swap}
+use Rattle.basics.proofs.Sums.{In, sum-cong, sum-add, sum-at}
 
 -- one unit more for i
 abbrev pub bump : (ℕ → ℕ) → ℕ → ℕ → ℕ

@@ -5,11 +5,11 @@ use mathlib.Core.Bool.{true}
 use mathlib.Core.List.{List}
 use native.Mathlib.Omega.{arith}
 use lib.ListN.{length, getD, replicate, length-replicate}
-use Rattle.game.specs.Sum.{sum}
+use Rattle.basics.specs.Sum.{sum}
 use Rattle.game.specs.Network.{Network, used, everyone, memberCount}
 use Rattle.game.specs.Core.{users}
 use Rattle.game.specs.ByArc.{userCount, gift, giveArc, byArcDown, byArc}
-use Rattle.game.proofs.Lists.{list-length, list-at}
+use Rattle.basics.proofs.Lists.{list-length, list-at}
 use Rattle.game.proofs.Encoding.{zeros}
 use Rattle.game.proofs.Meets.{used-by-number, shared-by}
 use Rattle.game.proofs.Shapley.{user-count-pos}

@@ -6,10 +6,10 @@ use mathlib.Core.Logic.{⊎-elim}
 use native.Mathlib.Omega.{arith}
 use borrow.Author.Tests.{eqb-true, eqb-false, ne-eqb}
 use lib.Dec.{eqb}
-use Rattle.game.specs.Sum.{pick, sum}
+use Rattle.basics.specs.Sum.{pick, sum}
 use Rattle.game.specs.Network.{Network, used, groupCost}
-use Rattle.game.proofs.Bools.{both, and-both, or-first, or-second, pick-yes, pick-no, pick-zero, pick-add, pick-swap, pick-le, pick-both-le}
-use Rattle.game.proofs.Sums.{In, sum-cong, sum-add, sum-mono, sum-swap, sum-pick, sum-at, sum-zero}
+use Rattle.basics.proofs.Bools.{both, and-both, or-first, or-second, pick-yes, pick-no, pick-zero, pick-add, pick-swap, pick-le, pick-both-le}
+use Rattle.basics.proofs.Sums.{In, sum-cong, sum-add, sum-mono, sum-swap, sum-pick, sum-at, sum-zero}
 use Rattle.game.proofs.Below.{Rooted, below-self}
 use Rattle.game.proofs.Groups.{used-of, used-child}
 

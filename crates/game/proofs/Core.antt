@@ -8,18 +8,19 @@ use native.Mathlib.Omega.{arith}
 use lib.Dec.{eqb}
 use lib.IntN.{ℤ, pos}
 use lib.Signed.{_≤ℤ_}
-use Rattle.game.specs.Sum.{pick, sum}
+use Rattle.basics.specs.Sum.{pick, sum}
 use Rattle.game.specs.Network.{Network, atOrBelow, groupCost, sumBelow, need, wholeCost, number, memberCount}
 use Rattle.game.specs.Group.{byNumber}
-use Rattle.game.specs.Proposal.{plus, minus, share, pays}
+use Rattle.basics.specs.Integer.{plus, minus}
+use Rattle.game.specs.Proposal.{share, pays}
 use Rattle.game.specs.Core.{users, others, bound, AddsUp, Core, CoreByBound, CoreByNeed}
-use Rattle.game.proofs.Bools.{both, pick-yes, pick-no, pick-zero, pick-add}
-use Rattle.game.proofs.Sums.{In, sum-cong, sum-add, sum-zero, sum-parts}
+use Rattle.basics.proofs.Bools.{both, pick-yes, pick-no, pick-zero, pick-add}
+use Rattle.basics.proofs.Sums.{In, sum-cong, sum-add, sum-zero, sum-parts}
 use Rattle.game.proofs.Below.{Rooted, sum-below-children, sum-from-source}
 use Rattle.game.proofs.Certificate.{children, OfMembers, certificate}
 use Rattle.game.proofs.Excess.{MembersEnd, no-children}
 use Rattle.game.proofs.Numbering.{vertex-of}
-use Rattle.game.proofs.Integers.{less-parts, less-le, le-less, less-is, le-trans-ℤ, no-minus}
+use Rattle.basics.proofs.Integers.{less-parts, less-le, le-less, less-is, le-trans-ℤ, no-minus}
 use Rattle.game.proofs.Overpayment.{over-at, under-at, group-sum, by-vertex, less-pays}
 use Rattle.game.proofs.Bounds.{users-at, less-bound, need-le-bound}
 

@@ -9,8 +9,8 @@ use borrow.Author.Tests.{eqb-true}
 use lib.Dec.{eqb}
 use Rattle.game.specs.Network.{Network, used, everyone, counted, atCounted, wholeCost, groupCost}
 use Rattle.game.specs.Tree.{Tree, ofArc, hasChild, network}
-use Rattle.game.proofs.Bools.{both, and-both, pick-yes, pick-no}
-use Rattle.game.proofs.Sums.{In, Some, some-is, sum-cong}
+use Rattle.basics.proofs.Bools.{both, and-both, pick-yes, pick-no}
+use Rattle.basics.proofs.Sums.{In, Some, some-is, sum-cong}
 use Rattle.game.proofs.Below.{Rooted, below-self, child-after}
 use Rattle.game.proofs.Groups.{used-of, used-child, everyone-cost}
 

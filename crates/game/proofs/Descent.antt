@@ -7,10 +7,10 @@ use native.Mathlib.Decide.{decLt, ℕ-discrete}
 use native.Mathlib.Omega.{arith}
 use borrow.Author.Tests.{eqb-true, ltb-true}
 use lib.Dec.{eqb, ltb}
-use Rattle.game.specs.Sum.{pick, sum}
+use Rattle.basics.specs.Sum.{pick, sum}
 use Rattle.game.specs.Network.{Network, atOrBelow, sumBelow}
-use Rattle.game.proofs.Bools.{pick-yes, pick-pos}
-use Rattle.game.proofs.Sums.{In, Some, sum-more-some}
+use Rattle.basics.proofs.Bools.{pick-yes, pick-pos}
+use Rattle.basics.proofs.Sums.{In, Some, sum-more-some}
 use Rattle.game.proofs.Below.{Rooted, child-after, below-self, below-trans, below-le, below-comparable, below-cases, sum-below-children}
 use Rattle.game.proofs.Groups.{child-below}
 

@@ -11,11 +11,12 @@ use lib.Dec.{eqb}
 use lib.ListN.{length, getD, set, replicate, length-set, List·getD-eq-default}
 use lib.Seq.{getD-set-same, getD-set-other, set-out}
 use lib.Pow.{shr-shr}
-use Rattle.game.specs.Sum.{pick, sum}
-use Rattle.game.specs.Group.{digit, bit, wordsOf}
-use Rattle.game.proofs.Bools.{pick-le}
-use Rattle.game.proofs.Sums.{sum-cong}
-use Rattle.game.proofs.Lists.{list-at, list-is}
+use Rattle.basics.specs.Sum.{pick, sum}
+use Rattle.basics.specs.Bit.{digit, bit}
+use Rattle.game.specs.Group.{wordsOf}
+use Rattle.basics.proofs.Bools.{pick-le}
+use Rattle.basics.proofs.Sums.{sum-cong}
+use Rattle.basics.proofs.Lists.{list-at, list-is}
 
 -- the number whose k lowest bits are f's
 abbrev word : ℕ → (ℕ → Bool) → ℕ

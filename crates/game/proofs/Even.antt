@@ -8,14 +8,13 @@ use native.Mathlib.Decide.{ℕ-discrete}
 use native.Mathlib.Omega.{arith}
 use borrow.Author.Tests.{ne-eqb}
 use lib.Dec.{eqb}
-use Rattle.game.specs.Sum.{pick, sum, count}
+use Rattle.basics.specs.Sum.{pick, sum, count, size}
 use Rattle.game.specs.Network.{Network, memberCount}
-use Rattle.game.specs.Group.{size}
 use Rattle.game.specs.Core.{users}
 use Rattle.game.specs.ByArc.{userCount}
 use Rattle.game.specs.Shapley.{factorial, shapley, pathLength, Even, Within}
-use Rattle.game.proofs.Bools.{both, pick-yes, pick-no, pick-le}
-use Rattle.game.proofs.Sums.{In, sum-mono, sum-add, sum-times, sum-count, sum-at, term-le}
+use Rattle.basics.proofs.Bools.{both, pick-yes, pick-no, pick-le}
+use Rattle.basics.proofs.Sums.{In, sum-mono, sum-add, sum-times, sum-count, sum-at, term-le}
 use Rattle.game.proofs.Below.{Rooted, below-self}
 use Rattle.game.proofs.Numbering.{vertex-of}
 use Rattle.game.proofs.Bounds.{users-at}

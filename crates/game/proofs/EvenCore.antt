@@ -7,12 +7,12 @@ use mathlib.Core.List.{List, map}
 use native.Mathlib.Omega.{arith}
 use lib.ListN.{getD}
 use lib.IntN.{pos}
-use Rattle.game.specs.Sum.{pick, sum}
+use Rattle.basics.specs.Sum.{pick, sum}
 use Rattle.game.specs.Network.{Network, atOrBelow, memberCount, sumBelow, wholeCost, members}
 use Rattle.game.specs.Core.{users, CoreByNeed}
 use Rattle.game.specs.Shapley.{Even}
-use Rattle.game.proofs.Bools.{both, pick-yes, pick-no, pick-zero}
-use Rattle.game.proofs.Sums.{In, sum-cong, sum-mono, sum-swap, sum-pick}
+use Rattle.basics.proofs.Bools.{both, pick-yes, pick-no, pick-zero}
+use Rattle.basics.proofs.Sums.{In, sum-cong, sum-mono, sum-swap, sum-pick}
 use Rattle.game.proofs.Below.{Rooted, below-trans}
 use Rattle.game.proofs.NaturalShares.{has, natural-core}
 

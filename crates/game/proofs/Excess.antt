@@ -8,10 +8,10 @@ use native.Mathlib.Decide.{decLt}
 use native.Mathlib.Omega.{arith}
 use borrow.Author.Tests.{eqb-true, eqb-false, ltb-true, lt-ltb}
 use lib.Dec.{eqb, ltb}
-use Rattle.game.specs.Sum.{pick, sum, some}
+use Rattle.basics.specs.Sum.{pick, sum, some}
 use Rattle.game.specs.Network.{Network, atOrBelow, used, groupCost}
-use Rattle.game.proofs.Bools.{both, clash, not-so, same-test, and-both, and-first, and-second, or-first, or-second, or-cases, pick-yes, pick-no, pick-add, pick-zero, pick-pos}
-use Rattle.game.proofs.Sums.{In, sum-cong, sum-add, sum-zero, term-le, sum-pos, some-of}
+use Rattle.basics.proofs.Bools.{both, clash, not-so, same-test, and-both, and-first, and-second, or-first, or-second, or-cases, pick-yes, pick-no, pick-add, pick-zero, pick-pos}
+use Rattle.basics.proofs.Sums.{In, sum-cong, sum-add, sum-zero, term-le, sum-pos, some-of}
 use Rattle.game.proofs.Below.{Rooted, from-source, below-self, below-cases, below-source, below-le, child-after}
 use Rattle.game.proofs.Groups.{used-of, used-by, used-child}
 use Rattle.game.proofs.Users.{users-of-end}

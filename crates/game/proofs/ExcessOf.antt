@@ -6,10 +6,10 @@ use mathlib.Core.Logic.{⊎-elim}
 use native.Mathlib.Omega.{arith}
 use borrow.Author.Tests.{eqb-true}
 use lib.Dec.{eqb}
-use Rattle.game.specs.Sum.{pick, sum}
+use Rattle.basics.specs.Sum.{pick, sum}
 use Rattle.game.specs.Network.{Network, sumBelow}
-use Rattle.game.proofs.Bools.{both, pick-no, pick-both-le}
-use Rattle.game.proofs.Sums.{In, sum-cong, sum-mono}
+use Rattle.basics.proofs.Bools.{both, pick-no, pick-both-le}
+use Rattle.basics.proofs.Sums.{In, sum-cong, sum-mono}
 use Rattle.game.proofs.Below.{Rooted, child-after, sum-below-children}
 use Rattle.game.proofs.SumBounds.{children-le}
 use Rattle.game.proofs.Certificate.{children}

@@ -8,15 +8,14 @@ use native.Mathlib.Decide.{decLt}
 use native.Mathlib.Omega.{arith}
 use borrow.Author.Tests.{lt-ltb, le-ltb}
 use lib.Dec.{ltb}
-use Rattle.game.specs.Sum.{pick, sum}
+use Rattle.basics.specs.Sum.{pick, sum, size}
 use Rattle.game.specs.Network.{Network, memberCount}
-use Rattle.game.specs.Group.{size}
 use Rattle.game.specs.Core.{users}
 use Rattle.game.specs.ByArc.{userCount, gift}
 use Rattle.game.specs.Shapley.{Even}
-use Rattle.game.proofs.Bools.{both, pick-yes, pick-no, pick-add, pick-le}
-use Rattle.game.proofs.Sums.{sum-cong, sum-add, sum-count}
-use Rattle.game.proofs.Sizes.{size-more, size-none}
+use Rattle.basics.proofs.Bools.{both, pick-yes, pick-no, pick-add, pick-le}
+use Rattle.basics.proofs.Sums.{sum-cong, sum-add, sum-count}
+use Rattle.basics.proofs.Sizes.{size-more, size-none}
 
 -- one unit to each of the r lowest numbers of a group
 lowest-sum : (n r : ℕ) (a : ℕ → Bool) → sum n (λ i. pick (a (pred i)) (pick (ltb (size (pred i) a) r) 1)) ≡ min (size n a) r

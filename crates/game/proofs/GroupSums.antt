@@ -5,10 +5,10 @@ use mathlib.Core.Bool.{Bool, true, false}
 use mathlib.Core.List.{List, [], _∷_, _++_, map}
 use native.Mathlib.Nat.{mul-zero}
 use native.Mathlib.Omega.{arith}
-use Rattle.game.specs.Sum.{pick, sum}
+use Rattle.basics.specs.Sum.{pick, sum}
 use Rattle.game.specs.Search.{groups}
 use Rattle.game.specs.Shapley.{overAll}
-use Rattle.game.proofs.Sums.{sum-add, sum-zero}
+use Rattle.basics.proofs.Sums.{sum-add, sum-zero}
 
 over-append : (f : List Bool → ℕ) (l r : List (List Bool)) → overAll f (l ++ r) ≡ overAll f l + overAll f r
 unfolding overAll

@@ -10,12 +10,12 @@ use borrow.Author.Tests.{eq-eqb, ne-eqb, ltb-true, lt-ltb}
 use lib.ListN.{length, getD, set, replicate, length-set, length-replicate}
 use lib.Seq.{getD-set-same, getD-set-other}
 use lib.Dec.{ltb}
-use Rattle.game.specs.Sum.{pick}
+use Rattle.basics.specs.Sum.{pick}
 use Rattle.game.specs.Network.{Network, atOrBelow, number, memberCount, sumBelow, members}
 use Rattle.game.specs.Core.{users}
 use Rattle.game.specs.Level.{mayTake, firstLeast, oneMore, unit, units, arcsDown, level}
-use Rattle.game.proofs.Bools.{both, clash, and-both, and-first, and-second, pick-yes, pick-no, pick-zero}
-use Rattle.game.proofs.Sums.{In, sum-cong}
+use Rattle.basics.proofs.Bools.{both, clash, and-both, and-first, and-second, pick-yes, pick-no, pick-zero}
+use Rattle.basics.proofs.Sums.{In, sum-cong}
 use Rattle.game.proofs.Below.{Rooted}
 use Rattle.game.proofs.Certificate.{OfMembers}
 use Rattle.game.proofs.Numbering.{member-at, Vertex, vertex-of}

@@ -7,12 +7,12 @@ use mathlib.Core.List.{List}
 use native.Mathlib.Omega.{arith}
 use lib.ListN.{getD}
 use lib.Dec.{ltb}
-use Rattle.game.specs.Sum.{pick}
+use Rattle.basics.specs.Sum.{pick, smaller}
 use Rattle.game.specs.Network.{Network, atOrBelow, number, sumBelow}
 use Rattle.game.specs.Core.{users}
-use Rattle.game.specs.Raise.{smaller, rise, fill}
-use Rattle.game.proofs.Bools.{both, pick-yes, pick-no, pick-zero}
-use Rattle.game.proofs.Sums.{In, sum-mono, sum-add}
+use Rattle.game.specs.Raise.{rise, fill}
+use Rattle.basics.proofs.Bools.{both, pick-yes, pick-no, pick-zero}
+use Rattle.basics.proofs.Sums.{In, sum-mono, sum-add}
 use Rattle.game.proofs.Below.{Rooted}
 use Rattle.game.proofs.Overpayment.{members-sum}
 use Rattle.game.proofs.Bounds.{users-at}

@@ -8,10 +8,10 @@ use native.Mathlib.Decide.{decLt, ℕ-discrete}
 use native.Mathlib.Omega.{arith}
 use borrow.Author.Tests.{eqb-true, eq-eqb, ne-eqb, lt-ltb, le-ltb}
 use lib.Dec.{eqb, ltb}
-use Rattle.game.specs.Sum.{pick, sum}
+use Rattle.basics.specs.Sum.{pick, sum}
 use Rattle.game.specs.Network.{Network, atOrBelow, sumBelow}
-use Rattle.game.proofs.Bools.{both, clash, not-so, same-test, pick-yes, pick-no, pick-zero}
-use Rattle.game.proofs.Sums.{In, sum-cong, sum-add, sum-zero, sum-at}
+use Rattle.basics.proofs.Bools.{both, clash, not-so, same-test, pick-yes, pick-no, pick-zero}
+use Rattle.basics.proofs.Sums.{In, sum-cong, sum-add, sum-zero, sum-at}
 use Rattle.game.proofs.Below.{Rooted, below-self, below-trans, below-le, below-comparable, all-below-source}
 use Rattle.game.proofs.Certificate.{OfMembers}
 use Rattle.game.proofs.Bump.{bump, squares, below-bump, squares-bump, below-cong, squares-cong, less-one, bump-less, less-at}

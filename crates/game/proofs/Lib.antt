@@ -1,16 +1,12 @@
-pub mod Bools
-pub mod Sums
+pub mod ArcEntries
 pub mod Below
 pub mod SumBounds
 pub mod Groups
 pub mod Users
 pub mod DeadEnds
-pub mod Sizes
-pub mod Lists
 pub mod Numbering
 pub mod Certificate
 pub mod Excess
-pub mod Integers
 pub mod Overpayment
 pub mod Search
 pub mod ActiveGroup

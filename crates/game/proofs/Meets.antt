@@ -6,12 +6,12 @@ use mathlib.Core.Logic.{_⊎_, inl, inr, ⊎-elim}
 use native.Mathlib.Omega.{arith}
 use borrow.Author.Tests.{eqb-true, eq-eqb}
 use lib.Dec.{eqb}
-use Rattle.game.specs.Sum.{some}
+use Rattle.basics.specs.Sum.{some}
 use Rattle.game.specs.Network.{Network, atOrBelow, used, number, memberCount}
 use Rattle.game.specs.Group.{byNumber}
 use Rattle.game.specs.Core.{users}
-use Rattle.game.proofs.Bools.{and-both, and-first, and-second, or-first, or-second, or-cases, same-test}
-use Rattle.game.proofs.Sums.{some-of, some-is}
+use Rattle.basics.proofs.Bools.{and-both, and-first, and-second, or-first, or-second, or-cases, same-test}
+use Rattle.basics.proofs.Sums.{some-of, some-is}
 use Rattle.game.proofs.Groups.{UsedBy, used-of, used-by}
 use Rattle.game.proofs.Numbering.{vertex-of}
 use Rattle.game.proofs.Overpayment.{number-lt}

@@ -6,11 +6,12 @@ use mathlib.Core.List.{List, map}
 use native.Mathlib.Omega.{arith}
 use lib.ListN.{getD, List·getD-map}
 use lib.IntN.{pos}
-use Rattle.game.specs.Sum.{pick, sum}
+use Rattle.basics.specs.Sum.{pick, sum}
 use Rattle.game.specs.Network.{Network, memberCount, need, wholeCost}
-use Rattle.game.specs.Proposal.{pickℤ, share, pays}
+use Rattle.basics.specs.Integer.{pickℤ}
+use Rattle.game.specs.Proposal.{share, pays}
 use Rattle.game.specs.Core.{users, IsArc, CoreByNeed}
-use Rattle.game.proofs.Integers.{less-parts, less-le, sum-pos-ℤ}
+use Rattle.basics.proofs.Integers.{less-parts, less-le, sum-pos-ℤ}
 
 pick-pos-ℤ : (b : Bool) (x : ℕ) → pickℤ b (pos x) ≡ pos (pick b x)
 pick-pos-ℤ true x = refl

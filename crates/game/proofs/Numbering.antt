@@ -8,10 +8,10 @@ use native.Mathlib.Decide.{decLt}
 use native.Mathlib.Omega.{arith}
 use lib.ListN.{length, getD, length-append, List·getD-append}
 use lib.Seq.{getD-at}
-use Rattle.game.specs.Sum.{pick, count}
+use Rattle.basics.specs.Sum.{pick, count}
 use Rattle.game.specs.Network.{membersTo}
-use Rattle.game.proofs.Bools.{both, pick-pos, pick-yes}
-use Rattle.game.proofs.Sums.{In, in-cases, in-last, in-more, sum-longer}
+use Rattle.basics.proofs.Bools.{both, pick-pos, pick-yes}
+use Rattle.basics.proofs.Sums.{In, in-cases, in-last, in-more, sum-longer}
 
 module _ (m : ℕ → Bool) where
   pub members-yes : (v : ℕ) → m (suc v) ≡ true → membersTo m (suc v) ≡ membersTo m v ++ (suc v ∷ [])

@@ -7,15 +7,16 @@ use mathlib.Core.List.{List}
 use native.Mathlib.Omega.{arith}
 use lib.IntN.{ℤ, pos, _+ℤ_, _-ℤ_}
 use lib.Signed.{_≤ℤ_}
-use Rattle.game.specs.Sum.{pick, sum, count}
+use Rattle.basics.specs.Sum.{pick, sum, count}
 use Rattle.game.specs.Network.{Network, atOrBelow, used, groupCost, number, memberCount}
 use Rattle.game.specs.Group.{byNumber}
-use Rattle.game.specs.Proposal.{plus, minus, share, sumℤ, pickℤ, pays, overpayment}
-use Rattle.game.proofs.Bools.{both, same-test, and-first, or-first, pick-swap}
-use Rattle.game.proofs.Sums.{In, sum-cong, sum-add, sum-longer}
+use Rattle.basics.specs.Integer.{plus, minus, sumℤ, pickℤ}
+use Rattle.game.specs.Proposal.{share, pays, overpayment}
+use Rattle.basics.proofs.Bools.{both, same-test, and-first, or-first, pick-swap}
+use Rattle.basics.proofs.Sums.{In, sum-cong, sum-add, sum-longer}
 use Rattle.game.proofs.Groups.{used-of, used-by, submodular}
 use Rattle.game.proofs.Numbering.{before-member}
-use Rattle.game.proofs.Integers.{Less, less-parts, less-minus, less-sum, less-le, le-less}
+use Rattle.basics.proofs.Integers.{Less, less-parts, less-minus, less-sum, less-le, le-less}
 
 -- a sum over member numbers is one over the members' vertices
 pub members-sum : (m : ℕ) (mem : ℕ → Bool) (x : ℕ → ℕ) → sum (count m mem) (λ i. x (pred i)) ≡ sum m (λ v. pick (mem v) (x (count (pred v) mem)))

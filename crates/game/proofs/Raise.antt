@@ -11,13 +11,13 @@ use borrow.Author.Tests.{eq-eqb, ne-eqb, ltb-true, ltb-false, lt-ltb, le-ltb}
 use lib.ListN.{length, getD, set, length-set}
 use lib.Seq.{getD-set-same, getD-set-other}
 use lib.Dec.{eqb, ltb}
-use Rattle.game.specs.Sum.{pick}
+use Rattle.basics.specs.Sum.{pick, smaller}
 use Rattle.game.specs.Network.{Network, memberCount}
 use Rattle.game.specs.Core.{users}
 use Rattle.game.specs.Level.{mayTake, firstLeast, unit, units}
-use Rattle.game.specs.Raise.{smaller, rise, fill}
-use Rattle.game.proofs.Bools.{both, and-both, and-first, and-second, pick-yes, pick-no}
-use Rattle.game.proofs.Sums.{sum-cong, sum-add, sum-zero, sum-at}
+use Rattle.game.specs.Raise.{rise, fill}
+use Rattle.basics.proofs.Bools.{both, and-both, and-first, and-second, pick-yes, pick-no}
+use Rattle.basics.proofs.Sums.{sum-cong, sum-add, sum-zero, sum-at}
 use Rattle.game.proofs.Smallest.{is-first}
 
 pub smaller-is : (a b : ℕ) → smaller a b ≡ a - (a - b)

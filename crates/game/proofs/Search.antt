@@ -11,12 +11,12 @@ use lib.IntN.{ℤ}
 use lib.Signed.{_≤ℤ_, ltZ, leZ, ≤ℤ-refl}
 use lib.Dec.{ltb}
 use Rattle.game.specs.Network.{Network, memberCount}
-use Rattle.game.specs.Group.{size}
+use Rattle.basics.specs.Sum.{size}
 use Rattle.game.specs.Proposal.{overpayment}
 use Rattle.game.specs.Search.{groups, isIn, better, best, named}
-use Rattle.game.proofs.Bools.{both, and-first, and-second, or-cases, neither-first, neither-second}
-use Rattle.game.proofs.Sizes.{size-same, size-full}
-use Rattle.game.proofs.Integers.{le-trans-ℤ, leZ-true, true-leZ, ltZ-true, ltZ-false}
+use Rattle.basics.proofs.Bools.{both, and-first, and-second, or-cases, neither-first, neither-second}
+use Rattle.basics.proofs.Sizes.{size-same, size-full}
+use Rattle.basics.proofs.Integers.{le-trans-ℤ, leZ-true, true-leZ, ltZ-true, ltZ-false}
 use Rattle.game.proofs.Overpayment.{overpayment-same, meet-overpays}
 
 -- x is one of the list

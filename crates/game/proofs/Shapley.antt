@@ -6,15 +6,15 @@ use mathlib.Core.List.{List}
 use native.Mathlib.Nat.{mul-zero, mul-comm, div-eq-of-eq-mul-right}
 use native.Mathlib.Omega.{arith}
 use lib.Dec.{eqb}
-use Rattle.game.specs.Sum.{pick, sum}
+use Rattle.basics.specs.Sum.{pick, sum, size}
 use Rattle.game.specs.Network.{Network, used, groupCost, memberCount}
-use Rattle.game.specs.Group.{byNumber, size}
+use Rattle.game.specs.Group.{byNumber}
 use Rattle.game.specs.Search.{groups, isIn}
 use Rattle.game.specs.Core.{users}
 use Rattle.game.specs.ByArc.{userCount}
 use Rattle.game.specs.Shapley.{factorial, adds, weight, shapley}
-use Rattle.game.proofs.Bools.{pick-yes, pick-same}
-use Rattle.game.proofs.Sums.{sum-cong, sum-add, sum-times, sum-pick, term-le}
+use Rattle.basics.proofs.Bools.{pick-yes, pick-same}
+use Rattle.basics.proofs.Sums.{sum-cong, sum-add, sum-times, sum-pick, term-le}
 use Rattle.game.proofs.Meets.{meets, meets-of, meets-more, used-by-number}
 use Rattle.game.proofs.GroupSums.{over-cong, over-times, over-pick, over-sum}
 use Rattle.game.proofs.Weights.{weights-avoiding, weights-sum}

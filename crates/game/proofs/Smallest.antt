@@ -8,7 +8,7 @@ use native.Mathlib.Omega.{arith}
 use borrow.Author.Tests.{eqb-true, eqb-false, eq-eqb, ltb-true, ltb-false, lt-ltb}
 use lib.Dec.{eqb, ltb}
 use Rattle.game.specs.Level.{orKeep, firstLeast}
-use Rattle.game.proofs.Bools.{both, not-so, and-both, and-first, and-second, or-first, or-second, or-cases, neither-first, neither-second}
+use Rattle.basics.proofs.Bools.{both, not-so, and-both, and-first, and-second, or-first, or-second, or-cases, neither-first, neither-second}
 
 module _ (may : ℕ → Bool) (x : ℕ → ℕ) where
   -- c is the best of the numbers below v, or 0 where none of them passes

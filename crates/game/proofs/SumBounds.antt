@@ -3,10 +3,10 @@ use Prim.Native.Nat.{ℕ, _≤_}
 use native.Mathlib.Decide.{ℕ-discrete}
 use native.Mathlib.Omega.{arith}
 use lib.Dec.{eqb}
-use Rattle.game.specs.Sum.{pick, sum}
+use Rattle.basics.specs.Sum.{pick, sum}
 use Rattle.game.specs.Network.{Network, atOrBelow, sumBelow}
-use Rattle.game.proofs.Bools.{pick-le}
-use Rattle.game.proofs.Sums.{sum-mono}
+use Rattle.basics.proofs.Bools.{pick-le}
+use Rattle.basics.proofs.Sums.{sum-mono}
 use Rattle.game.proofs.Below.{Rooted, sum-below-children, sum-from-source}
 
 pub sum-below-le : (n : Network) (x : ℕ → ℕ) (k : ℕ) → sumBelow n x k ≤ sum (n .arcs) x

@@ -6,10 +6,10 @@ use mathlib.Core.Logic.{⊎-elim}
 use native.Mathlib.Nat.{zero-add}
 use borrow.Author.Tests.{eqb-true, eq-eqb}
 use lib.Dec.{eqb}
-use Rattle.game.specs.Sum.{pick, count, some}
+use Rattle.basics.specs.Sum.{pick, count, some}
 use Rattle.game.specs.Network.{Network, atOrBelow, user}
-use Rattle.game.proofs.Bools.{both, clash, not-so, and-both, and-first, and-second, same-test, pick-no, pick-zero, pick-and}
-use Rattle.game.proofs.Sums.{In, Some, sum-cong, sum-zero, some-of}
+use Rattle.basics.proofs.Bools.{both, clash, not-so, and-both, and-first, and-second, same-test, pick-no, pick-zero, pick-and}
+use Rattle.basics.proofs.Sums.{In, Some, sum-cong, sum-zero, some-of}
 use Rattle.game.proofs.Below.{Rooted, below-self, child-sum, below-children}
 use Rattle.game.proofs.Groups.{below-child}
 

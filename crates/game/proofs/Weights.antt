@@ -6,12 +6,11 @@ use mathlib.Core.Logic.{⊎-elim}
 use mathlib.Core.List.{List, _∷_}
 use native.Mathlib.Nat.{add-zero, zero-add, add-suc, suc-add, mul-pos, zero-lt-suc, eq-of-mul-eq-mul-left}
 use native.Mathlib.Omega.{arith}
-use Rattle.game.specs.Sum.{pick}
-use Rattle.game.specs.Group.{size}
+use Rattle.basics.specs.Sum.{pick, size}
 use Rattle.game.specs.Search.{groups, isIn}
 use Rattle.game.specs.Shapley.{factorial, overAll, weight}
-use Rattle.game.proofs.Bools.{both, pick-yes, pick-no}
-use Rattle.game.proofs.Sizes.{size-first, size-none}
+use Rattle.basics.proofs.Bools.{both, pick-yes, pick-no}
+use Rattle.basics.proofs.Sizes.{size-first, size-none}
 use Rattle.game.proofs.Meets.{meets, meets-first}
 use Rattle.game.proofs.GroupSums.{over-first, over-cong, over-zero}
 

@@ -3,9 +3,8 @@ use Prim.Native.Nat.{ℕ, zero, suc, pred, _+_, _/_, _%_}
 use mathlib.Core.List.{List}
 use lib.ListN.{getD, replicate}
 use lib.Dec.{ltb}
-use Rattle.game.specs.Sum.{pick, list}
+use Rattle.basics.specs.Sum.{pick, list, size}
 use Rattle.game.specs.Network.{Network, memberCount}
-use Rattle.game.specs.Group.{size}
 use Rattle.game.specs.Core.{users}
 
 -- the number of an arc's users

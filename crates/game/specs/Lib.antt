@@ -1,4 +1,3 @@
-pub mod Sum
 pub mod Network
 pub mod Tree
 pub mod Group

@@ -3,7 +3,7 @@ use Prim.Native.Nat.{ℕ, zero, suc, pred}
 use mathlib.Core.Bool.{Bool, true, false, _&&_, _||_}
 use mathlib.Core.List.{List, [], _∷_, _++_}
 use lib.Dec.{eqb}
-use Rattle.game.specs.Sum.{pick, sum, count, some}
+use Rattle.basics.specs.Sum.{pick, sum, count, some}
 
 -- Vertex 0 is the source. Arc k, for k from 1 to `arcs`, enters vertex k from `parent k`, a vertex numbered below k.
 -- `member` tells which of the vertices from 1 on are members.

@@ -1,30 +1,12 @@
 -- A list of whole shares, one a member and of either sign, and what a group pays of it.
-use Prim.Native.Nat.{ℕ, zero, suc}
-use mathlib.Core.Bool.{Bool, true, false}
+use Prim.Native.Nat.{ℕ}
+use mathlib.Core.Bool.{Bool, true}
 use mathlib.Core.List.{List}
 use lib.ListN.{getD}
-use lib.IntN.{ℤ, pos, negsuc, _+ℤ_, _-ℤ_}
+use lib.IntN.{ℤ, pos, _-ℤ_}
+use Rattle.basics.specs.Integer.{pickℤ, sumℤ}
 use Rattle.game.specs.Network.{Network, groupCost, memberCount, wholeCost}
 use Rattle.game.specs.Group.{byNumber}
-
--- x where the test holds, else 0
-abbrev pub pickℤ : Bool → ℤ → ℤ
-pickℤ true x = x
-pickℤ false x = pos 0
-
--- f 0 + f 1 + .. + f (n - 1)
-abbrev pub sumℤ : ℕ → (ℕ → ℤ) → ℤ
-sumℤ zero f = pos 0
-sumℤ (suc n) f = sumℤ n f +ℤ f n
-
--- the positive and the negative part of a whole number: x is `plus x` less `minus x`
-abbrev pub plus : ℤ → ℕ
-plus (pos a) = a
-plus (negsuc a) = 0
-
-abbrev pub minus : ℤ → ℕ
-minus (pos a) = 0
-minus (negsuc a) = suc a
 
 -- member j's share
 abbrev pub share : List ℤ → ℕ → ℤ

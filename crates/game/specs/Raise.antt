@@ -1,15 +1,11 @@
 -- The level rule at one arc, in bulk: its users raised to a level.
 use Prim.Native.Nat.{ℕ, pred, _+_, _-_}
-use mathlib.Core.Bool.{cond}
 use mathlib.Core.List.{List}
 use lib.ListN.{getD}
 use lib.Dec.{ltb}
-use Rattle.game.specs.Sum.{pick, sum}
+use Rattle.basics.specs.Sum.{pick, sum, smaller}
 use Rattle.game.specs.Network.{Network, memberCount}
 use Rattle.game.specs.Core.{users}
-
-abbrev pub smaller : ℕ → ℕ → ℕ
-smaller a b = cond (ltb a b) a b
 
 -- what a user takes on the way to a level: nobody rises above its cap, and no share falls
 abbrev pub took : ℕ → ℕ → ℕ → ℕ

@@ -7,7 +7,7 @@ use lib.IntN.{ℤ}
 use lib.Signed.{ltZ, leZ}
 use lib.Dec.{ltb}
 use Rattle.game.specs.Network.{Network, memberCount}
-use Rattle.game.specs.Group.{size}
+use Rattle.basics.specs.Sum.{size}
 use Rattle.game.specs.Proposal.{overpayment}
 
 -- every group of n members, each as a list of n places

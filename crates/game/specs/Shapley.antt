@@ -4,9 +4,9 @@ use mathlib.Core.Path.{_≡_}
 use mathlib.Core.Bool.{Bool, true, false, not, _||_}
 use mathlib.Core.List.{List, [], _∷_}
 use lib.Dec.{eqb}
-use Rattle.game.specs.Sum.{pick, sum, count}
+use Rattle.basics.specs.Sum.{pick, sum, count, size}
 use Rattle.game.specs.Network.{Network, groupCost, memberCount}
-use Rattle.game.specs.Group.{byNumber, size}
+use Rattle.game.specs.Group.{byNumber}
 use Rattle.game.specs.Search.{groups, isIn}
 use Rattle.game.specs.Core.{users}
 use Rattle.game.specs.ByArc.{userCount}

@@ -4,7 +4,7 @@ use mathlib.Core.Bool.{Bool, not}
 use mathlib.Core.List.{List}
 use lib.ListN.{length, getD}
 use lib.Dec.{eqb}
-use Rattle.game.specs.Sum.{some}
+use Rattle.basics.specs.Sum.{some}
 use Rattle.game.specs.Network.{Network}
 
 -- the parent and the cost of each arc, entry 0 for arc 1

@@ -5,10 +5,11 @@ use mathlib.Core.Bool.{not}
 use mathlib.Core.List.{List}
 use native.Mathlib.Omega.{arith}
 use lib.Dec.{eqb}
-use Rattle.answers.specs.Answer.{accepted, fault, _then_}
+use Rattle.answer_forms.specs.Answer.{accepted, fault, _then_}
 use Rattle.answers.specs.Checks.{mostArcs, treeCheck, proposalCheck}
 use Rattle.answers.specs.Level.{capsCheck}
-use Rattle.answers.proofs.Accepted.{first-accepted, second-accepted, no-fault, tree-accepted}
+use Rattle.answer_forms.proofs.Composed.{first-accepted, second-accepted, no-fault}
+use Rattle.answers.proofs.Accepted.{tree-accepted}
 use Rattle.answers.proofs.Limits.{members-bound}
 use Rattle.job_bytes.specs.Format.{arcOffset, jobArcs, jobMembers, parentAt, jobCaps, jobProposals}
 use Rattle.job_bytes.proofs.Entries.{length-entries}

@@ -8,10 +8,10 @@ use borrow.Author.Tests.{ltb-false}
 use lib.ListN.{length, drop}
 use lib.IntN.{ℤ}
 use lib.Dec.{ltb}
-use Rattle.game.proofs.Bools.{neither-first, neither-second}
-use Rattle.answers.specs.Answer.{Answer, value, refusal, accepted, refused}
+use Rattle.basics.proofs.Bools.{neither-first, neither-second}
+use Rattle.answer_forms.specs.Answer.{Answer, value, refusal, accepted, refused}
 use Rattle.answers.specs.Checks.{mostArcs}
-use Rattle.answers.proofs.Accepted.{no-fault}
+use Rattle.answer_forms.proofs.Composed.{no-fault}
 use Rattle.job_bytes.specs.Numbers.{entries}
 use Rattle.job_bytes.specs.Format.{parentAt, costAt, capAt, proposalAt, TrailerOf}
 use Rattle.job_form.proofs.FormAccepted.{form-layout}

@@ -5,10 +5,10 @@ use native.Mathlib.Omega.{arith}
 use lib.IntN.{ℤ}
 use Rattle.game.specs.Network.{memberCount}
 use Rattle.game.specs.Tree.{Tree, network}
-use Rattle.answers.specs.Answer.{Check, accepted, refused, answer}
+use Rattle.answer_forms.specs.Answer.{Check, accepted, refused, answer}
 use Rattle.answers.specs.Checks.{treeCheck}
 use Rattle.answers.specs.Members.{memberCountAnswer}
-use Rattle.checks.specs.declared.Refusal.{Refusal}
+use Rattle.answer_forms.specs.declared.Refusal.{Refusal}
 use Rattle.engine.specs.Outcomes.{memberCountOf}
 use Rattle.engine.specs.declared.members.MemberCount.{MemberCount}
 use Rattle.engine.specs.declared.members.MemberCount.the-variants.{Members, Refused as NoMembers}

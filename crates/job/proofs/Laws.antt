@@ -3,8 +3,8 @@ use Prim.Native.Nat.{ℕ}
 use mathlib.Core.Path.{_≡_, sym}
 use mathlib.Core.List.{List, _++_}
 use lib.ListN.{length, drop}
-use Rattle.answers.specs.Answer.{accepted}
-use Rattle.answers.proofs.Accepted.{second-accepted, answered}
+use Rattle.answer_forms.specs.Answer.{accepted}
+use Rattle.answer_forms.proofs.Composed.{second-accepted, answered}
 use Rattle.job_bytes.specs.Format.{jobArcs, jobMembers, arcOffset, memberOffset, parentAt, costAt, capAt, proposalAt, jobParents, jobCosts, jobCaps, jobProposals}
 use Rattle.job_bytes.proofs.Entries.{front}
 use Rattle.job_form.proofs.SameJob.{same-job}

@@ -1,6 +1,6 @@
 -- Two answers of the reader that stand for the same value or refusal are the same: each answer can be read back.
 use mathlib.Core.Path.{_≡_, refl, sym, ap, _∙_}
-use Rattle.answers.specs.Answer.{Answer, value, refusal}
+use Rattle.answer_forms.specs.Answer.{Answer, value, refusal}
 use Rattle.job.specs.Reader.{JobValue, jobReadOf}
 use Rattle.job.specs.declared.JobRead.{JobRead}
 use Rattle.job.specs.declared.JobRead.the-variants.{Read, Refused}

@@ -6,7 +6,7 @@ use lib.IntN.{ℤ}
 use lib.Dec.{eqb}
 use Rattle.game.specs.Network.{memberCount}
 use Rattle.game.specs.Tree.{Tree, treeOf, network}
-use Rattle.answers.specs.Answer.{Check, fault, _then_}
+use Rattle.answer_forms.specs.Answer.{Check, fault, _then_}
 use Rattle.answers.specs.Checks.{treeCheck, proposalCheck}
 use Rattle.answers.specs.Level.{capsCheck}
 use Rattle.job_bytes.specs.Format.{jobMembers, jobParents, jobCosts, jobCaps, jobProposals}

@@ -5,7 +5,7 @@ use mathlib.Core.List.{List}
 use lib.ListN.{take}
 use Rattle.game.specs.Network.{memberCount}
 use Rattle.game.specs.Tree.{Tree, treeOf, network}
-use Rattle.answers.specs.Answer.{accepted, value}
+use Rattle.answer_forms.specs.Answer.{accepted, value}
 use Rattle.answers.specs.Checks.{treeCheck, proposalCheck}
 use Rattle.answers.specs.Level.{capsCheck}
 use Rattle.job_bytes.specs.Numbers.{Bytes}

@@ -5,7 +5,7 @@ use mathlib.Core.List.{List, _++_}
 use lib.ListN.{length, drop}
 use lib.IntN.{ℤ}
 use lib.Dec.{ltb}
-use Rattle.answers.specs.Answer.{Check, accepted, refused, Answer, value, refusal, fault, _then_, answer, written}
+use Rattle.answer_forms.specs.Answer.{Check, accepted, refused, Answer, value, refusal, fault, _then_, answer, written}
 use Rattle.answers.specs.Checks.{mostArcs}
 use Rattle.engine.specs.declared.members.MemberCount.{MemberCount}
 use Rattle.engine.specs.declared.members.MemberCount.the-variants.{Members, Refused as NoMembers}

@@ -4,7 +4,7 @@ use mathlib.Core.Path.{_≡_}
 use mathlib.Core.List.{List, [], _∷_, _++_}
 use lib.ListN.{length, replicate}
 use lib.IntN.{pos, negsuc}
-use Rattle.answers.specs.Answer.{value, refusal}
+use Rattle.answer_forms.specs.Answer.{value, refusal}
 use Rattle.job.specs.Reader.{Lent, lent, jobAnswer, jobLists}
 
 -- a row and a trailer of small numbers; `sign` fills a proposal's upper bytes

@@ -1,12 +1,12 @@
 // The job reader: the public entry over a job's bytes.
 mod values;
 
-use checks::Checked;
-use checks::Refusal;
+use answer_forms::Checked;
+use answer_forms::Refusal;
 ghost use mathlib.Core.Path.{_≡_};
 ghost use Rattle.job.specs.JobCheck.{jobCheck};
 ghost use Rattle.job.specs.Reader.{lent, roomCheck, jobAnswer, jobLists, jobReadOf};
-ghost use Rattle.checks.specs.Checked.{checkOf};
+ghost use Rattle.answer_forms.specs.Checked.{checkOf};
 
 pub enum JobRead {
     // The number of arcs and of members, and the length of the note.
@@ -26,16 +26,16 @@ fn check_room(parents: usize, costs: usize, caps: usize, proposals: usize) -> Ch
     ensures { λ r. ⌜ checkOf r ≡ roomCheck parents costs caps proposals ⌝ }
 {
     if parents < MOST_ARCS {
-        return checks::refuse(10, 0);
+        return answer_forms::refuse(10, 0);
     }
     if costs < MOST_ARCS {
-        return checks::refuse(10, 0);
+        return answer_forms::refuse(10, 0);
     }
     if caps < MOST_ARCS {
-        return checks::refuse(10, 0);
+        return answer_forms::refuse(10, 0);
     }
     if proposals < MOST_ARCS {
-        return checks::refuse(10, 0);
+        return answer_forms::refuse(10, 0);
     }
     Checked::Accepted
 }
@@ -68,11 +68,11 @@ pub fn read(
 {
     let room = check_room(parents.len(), costs.len(), caps.len(), proposals.len());
     let Checked::Accepted = room else {
-        return JobRead::Refused(checks::refusal_of(room));
+        return JobRead::Refused(answer_forms::refusal_of(room));
     };
     let job = check_job(bytes);
     let Checked::Accepted = job else {
-        return JobRead::Refused(checks::refusal_of(job));
+        return JobRead::Refused(answer_forms::refusal_of(job));
     };
     let trailer = job_bytes::read_trailer(bytes);
     let note = trailer.arc_offset;

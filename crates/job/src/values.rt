@@ -1,6 +1,6 @@
 // The values of a job: the engine's checks on what the rows hold.
-use checks::Checked;
-use checks::refuse;
+use answer_forms::Checked;
+use answer_forms::refuse;
 use engine::MemberCount;
 ghost use mathlib.Core.Path.{_≡_};
 ghost use mathlib.Core.Bool.{not};
@@ -8,9 +8,9 @@ ghost use Prim.Native.Nat.{_+_, _*_, _≤_};
 ghost use lib.ListN.{length};
 ghost use lib.Dec.{eqb};
 ghost use Rattle.game.specs.Tree.{treeOf};
-ghost use Rattle.answers.specs.Answer.{fault};
+ghost use Rattle.answer_forms.specs.Answer.{fault};
 ghost use Rattle.answers.specs.Members.{memberCountAnswer};
-ghost use Rattle.checks.specs.Checked.{checkOf};
+ghost use Rattle.answer_forms.specs.Checked.{checkOf};
 ghost use Rattle.engine.specs.Outcomes.{memberCountOf};
 ghost use Rattle.job_bytes.specs.Numbers.{entries};
 ghost use Rattle.job_bytes.specs.Format.{parentAt, costAt, capAt, proposalAt};

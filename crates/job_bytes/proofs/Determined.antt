@@ -9,7 +9,7 @@ use native.Mathlib.Omega.{arith}
 use lib.ListN.{length, take}
 use lib.Seq.{take-suc}
 use lib.IntN.{pos, negsuc}
-use Rattle.game.proofs.Lists.{list-at}
+use Rattle.basics.proofs.Lists.{list-at}
 use Rattle.numbers.specs.Signed.{signed64}
 use Rattle.numbers.proofs.TwosComplement.{lower, upper}
 use Rattle.job_bytes.specs.Numbers.{byteAt, littleEndian, entries, Bytes}

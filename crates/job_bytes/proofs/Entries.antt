@@ -6,7 +6,7 @@ use native.Mathlib.Numerals.{add-one}
 use native.Mathlib.Omega.{arith}
 use lib.ListN.{length, getD, set, take, drop, length-set}
 use lib.Seq.{drop-cons, set-at, append-snoc}
-use Rattle.game.proofs.Lists.{list-length, list-front, list-part}
+use Rattle.basics.proofs.Lists.{list-length, list-front, list-part}
 use Rattle.job_bytes.specs.Numbers.{entries}
 
 module _ {A : Type 0} where

@@ -2,7 +2,7 @@
 use Prim.Native.Nat.{ℕ, zero, suc, pred, _+_, _*_, _<_}
 use mathlib.Core.List.{List}
 use lib.ListN.{getD}
-use Rattle.game.specs.Sum.{list}
+use Rattle.basics.specs.Sum.{list}
 
 -- the byte at a place
 abbrev pub byteAt : List ℕ → ℕ → ℕ

@@ -1,11 +1,11 @@
 -- A check that is followed by another.
 use Prim.Native.Nat.{ℕ}
 use mathlib.Core.Path.{_≡_, _∙_}
-use Rattle.answers.specs.Answer.{Check, accepted, refused, _then_}
-use Rattle.checks.specs.Checked.{checkOf}
-use Rattle.checks.specs.declared.Refusal.{Refusal}
-use Rattle.checks.specs.declared.Checked.{Checked}
-use Rattle.checks.specs.declared.Checked.the-variants.{Refused}
+use Rattle.answer_forms.specs.Answer.{Check, accepted, refused, _then_}
+use Rattle.answer_forms.specs.Checked.{checkOf}
+use Rattle.answer_forms.specs.declared.Refusal.{Refusal}
+use Rattle.answer_forms.specs.declared.Checked.{Checked}
+use Rattle.answer_forms.specs.declared.Checked.the-variants.{Refused}
 
 -- its refusal is that of the two
 pub turned-down : {check found : Check} {number place : ℕ} (next : Check) → found ≡ check → check ≡ refused number place → found ≡ (check then next)

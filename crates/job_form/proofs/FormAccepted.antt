@@ -6,9 +6,9 @@ use mathlib.Core.List.{List}
 use borrow.Author.Tests.{eqb-true, ltb-false, not-false}
 use lib.ListN.{length}
 use lib.Dec.{eqb, ltb}
-use Rattle.game.proofs.Bools.{neither-first, neither-second}
-use Rattle.answers.specs.Answer.{accepted, _then_}
-use Rattle.answers.proofs.Accepted.{first-accepted, second-accepted, no-fault}
+use Rattle.basics.proofs.Bools.{neither-first, neither-second}
+use Rattle.answer_forms.specs.Answer.{accepted, _then_}
+use Rattle.answer_forms.proofs.Composed.{first-accepted, second-accepted, no-fault}
 use Rattle.job_bytes.specs.Format.{arcOffset, memberOffset, jobArcs, jobMembers, version, closing0, closing1}
 use Rattle.job_form.specs.Form.{Layout, fewestBytes, mostBytes, longestNote, sizeCheck, marksCheck, layoutCheck, formCheck}
 

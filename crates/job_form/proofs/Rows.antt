@@ -5,11 +5,11 @@ use mathlib.Core.Bool.{not}
 use mathlib.Core.List.{List}
 use native.Mathlib.Omega.{arith}
 use lib.Dec.{eqb}
-use Rattle.answers.specs.Answer.{Check, accepted, fault, _then_}
-use Rattle.checks.specs.Checked.{checkOf}
-use Rattle.checks.specs.declared.Refusal.{Refusal}
-use Rattle.checks.specs.declared.Checked.{Checked}
-use Rattle.checks.specs.declared.Checked.the-variants.{Accepted, Refused}
+use Rattle.answer_forms.specs.Answer.{Check, accepted, fault, _then_}
+use Rattle.answer_forms.specs.Checked.{checkOf}
+use Rattle.answer_forms.specs.declared.Refusal.{Refusal}
+use Rattle.answer_forms.specs.declared.Checked.{Checked}
+use Rattle.answer_forms.specs.declared.Checked.the-variants.{Accepted, Refused}
 use Rattle.job_bytes.specs.Format.{fillerAt}
 use Rattle.job_form.specs.Form.{fillersFrom}
 

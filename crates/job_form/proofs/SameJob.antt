@@ -9,8 +9,8 @@ use lib.ListN.{length, take}
 use lib.Seq.{take-length, length-take-le}
 use lib.IntN.{pos}
 use lib.Dec.{eqb}
-use Rattle.answers.specs.Answer.{accepted, fault}
-use Rattle.answers.proofs.Accepted.{first-accepted, second-accepted, no-fault}
+use Rattle.answer_forms.specs.Answer.{accepted, fault}
+use Rattle.answer_forms.proofs.Composed.{first-accepted, second-accepted, no-fault}
 use Rattle.job_bytes.specs.Numbers.{littleEndian, Bytes, entries}
 use Rattle.job_bytes.specs.Format.{trailerAt, arcOffset, memberOffset, jobArcs, jobMembers, version, fillerAt, parentAt, costAt, capAt, proposalAt, jobNote, Alike}
 use Rattle.job_bytes.proofs.Entries.{length-entries}

@@ -5,7 +5,7 @@ use mathlib.Core.Bool.{_||_, not}
 use mathlib.Core.List.{List}
 use lib.ListN.{length}
 use lib.Dec.{eqb, ltb}
-use Rattle.answers.specs.Answer.{Check, accepted, fault, _then_}
+use Rattle.answer_forms.specs.Answer.{Check, accepted, fault, _then_}
 use Rattle.job_bytes.specs.Format.{arcOffset, memberOffset, jobArcs, jobMembers, version, closing0, closing1, fillerAt}
 
 -- the fewest and the most bytes, and the longest note

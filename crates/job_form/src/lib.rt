@@ -1,14 +1,14 @@
 // The form of a job: its size, its marks, its layout, and its fillers.
-use checks::Checked;
-use checks::refuse;
+use answer_forms::Checked;
+use answer_forms::refuse;
 use job_bytes::number_at;
 ghost use mathlib.Core.Path.{_≡_};
 ghost use mathlib.Core.Bool.{not};
 ghost use Prim.Native.Nat.{_+_, _*_, _≤_};
 ghost use lib.ListN.{length};
 ghost use lib.Dec.{eqb};
-ghost use Rattle.answers.specs.Answer.{fault};
-ghost use Rattle.checks.specs.Checked.{checkOf};
+ghost use Rattle.answer_forms.specs.Answer.{fault};
+ghost use Rattle.answer_forms.specs.Checked.{checkOf};
 ghost use Rattle.job_form.specs.Form.{Layout, sizeCheck, marksCheck, layoutCheck, formCheck, fillersFrom, fillersCheck};
 
 const FEWEST_BYTES: usize = 16;

@@ -4,9 +4,10 @@ use mathlib.Core.Path.{_≡_, refl}
 use mathlib.Core.List.{List}
 use borrow.Author.Tests.{ltb-false}
 use lib.ListN.{getD}
-use Rattle.answers.specs.Answer.{accepted}
+use Rattle.answer_forms.specs.Answer.{accepted}
 use Rattle.answers.specs.Checks.{mostShare}
-use Rattle.answers.specs.Level.{Capped, outsideCap, capsCheck}
+use Rattle.tree.specs.Passes.{Capped}
+use Rattle.answers.specs.Level.{outsideCap, capsCheck}
 use Rattle.checks.proofs.Range.{list-accepted}
 
 pub caps-accepted : (members : ℕ) (caps : List ℕ) → capsCheck members caps ≡ accepted → Capped members caps

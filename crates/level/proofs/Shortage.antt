@@ -7,11 +7,11 @@ use mathlib.Core.List.{List, []}
 use native.Mathlib.Omega.{arith}
 use lib.ListN.{length, getD}
 use lib.Dec.{ltb}
-use Rattle.game.specs.Sum.{list}
+use Rattle.basics.specs.Sum.{list}
 use Rattle.game.specs.Network.{Network, sumBelow, need, memberCount}
 use Rattle.game.specs.Tree.{treeOf, network}
-use Rattle.game.proofs.Bools.{both}
-use Rattle.game.proofs.Lists.{list-at}
+use Rattle.basics.proofs.Bools.{both}
+use Rattle.basics.proofs.Lists.{list-at}
 use Rattle.answers.specs.Level.{split, capSum, shortArc, splitOr9}
 use Rattle.level.specs.Found.{answerOf, shortAt, _orElse_, shortFrom}
 use Rattle.level.specs.declared.short.CapsFound.{CapsFound}

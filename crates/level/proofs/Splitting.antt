@@ -8,12 +8,13 @@ use Rattle.game.specs.Network.{memberCount, sumBelow}
 use Rattle.game.specs.Tree.{Tree, treeOf, network, ofArc}
 use Rattle.game.specs.Level.{unit, units, arcsDown, level}
 use Rattle.game.specs.Raise.{fill}
-use Rattle.game.proofs.Sums.{In}
+use Rattle.basics.proofs.Sums.{In}
 use Rattle.game.proofs.LevelRule.{lower}
 use Rattle.game.proofs.LevelList.{view, Stands, next-arc, stands-start}
 use Rattle.game.proofs.LevelRoom.{enough-left}
 use Rattle.answers.specs.Checks.{mostShare}
-use Rattle.answers.specs.Level.{Capped, shortArc}
+use Rattle.tree.specs.Passes.{Capped}
+use Rattle.answers.specs.Level.{shortArc}
 use Rattle.answers.proofs.Accepted.{Accepted}
 use Rattle.answers.proofs.Limits.{members-bound}
 use Rattle.answers.proofs.ShortArc.{none-short}

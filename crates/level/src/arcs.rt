@@ -5,9 +5,10 @@ ghost use lib.ListN.{length};
 ghost use Rattle.game.specs.Network.{memberCount, members};
 ghost use Rattle.game.specs.Tree.{treeOf, network, ofArc};
 ghost use Rattle.game.specs.Level.{level};
-ghost use Rattle.answers.specs.Answer.{accepted};
+ghost use Rattle.answer_forms.specs.Answer.{accepted};
 ghost use Rattle.answers.specs.Checks.{treeCheck};
-ghost use Rattle.answers.specs.Level.{Capped, shortArc};
+ghost use Rattle.tree.specs.Passes.{Capped};
+ghost use Rattle.answers.specs.Level.{shortArc};
 ghost use Rattle.users.specs.Users.{LaidOut};
 
 // Over the members laid out so that the users of each arc stand side by side.

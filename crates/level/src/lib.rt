@@ -1,9 +1,7 @@
 // The level split: whether the caps are enough, and the arcs from the last down to the first.
 mod arcs;
-mod check;
 mod short;
 
 pub use arcs::split_arcs;
-pub use check::check_caps;
 pub use short::CapsFound;
 pub use short::find_short;

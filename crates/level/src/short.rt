@@ -5,9 +5,10 @@ ghost use mathlib.Core.List.{[]};
 ghost use lib.ListN.{length};
 ghost use Rattle.game.specs.Network.{members, memberCount};
 ghost use Rattle.game.specs.Tree.{treeOf, network};
-ghost use Rattle.answers.specs.Answer.{accepted};
+ghost use Rattle.answer_forms.specs.Answer.{accepted};
 ghost use Rattle.answers.specs.Checks.{treeCheck};
-ghost use Rattle.answers.specs.Level.{Capped, shortArc, splitOr9};
+ghost use Rattle.tree.specs.Passes.{Capped};
+ghost use Rattle.answers.specs.Level.{shortArc, splitOr9};
 ghost use Rattle.level.specs.Found.{answerOf, shortAt, shortFrom};
 
 pub enum CapsFound {

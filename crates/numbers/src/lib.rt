@@ -7,9 +7,8 @@ pub use signed::plus;
 ghost use mathlib.Core.Path.{_≡_};
 ghost use Prim.Native.Nat.{_-_, _<_, _≤_};
 ghost use lib.Dec.{ltb};
-ghost use Rattle.game.specs.Sum.{pick};
-ghost use Rattle.game.specs.Raise.{smaller};
-ghost use Rattle.game.specs.Group.{digit};
+ghost use Rattle.basics.specs.Sum.{pick, smaller};
+ghost use Rattle.basics.specs.Bit.{digit};
 
 // a less b, 0 where b is greater.
 pub fn above(a: u64, b: u64) -> u64

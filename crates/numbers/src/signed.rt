@@ -1,6 +1,6 @@
 // A signed number taken apart, and made of its bits. -1 - x turns a sign and fits for every x.
 ghost use mathlib.Core.Path.{_≡_};
-ghost use Rattle.game.specs.Proposal.{plus as plusOf, minus as minusOf};
+ghost use Rattle.basics.specs.Integer.{plus as plusOf, minus as minusOf};
 ghost use Rattle.numbers.specs.Signed.{signed64};
 
 // x where it is positive, else 0.

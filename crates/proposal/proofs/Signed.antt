@@ -1,28 +1,14 @@
--- A signed number as the code reads it: its range, and a difference.
-use Prim.Native.Nat.{ℕ, zero, suc, pred, _^_, _<_}
+-- The difference of two numbers as a signed number.
+use Prim.Native.Nat.{ℕ, zero, suc, _^_, _<_}
 use mathlib.Core.Path.{_≡_, refl, ap}
-use mathlib.Core.Bool.{true, false, false≢true}
 use native.Mathlib.Decide.{decLt}
 use native.Mathlib.Omega.{arith}
-use borrow.Author.Tests.{ltb-true, ltb-false, lt-ltb, le-ltb}
-use lib.IntN.{ℤ, pos, negsuc, negℤ, _-ℤ_, subℕ}
-use lib.Signed.{mag, ltZ}
+use borrow.Author.Tests.{lt-ltb, le-ltb}
+use lib.IntN.{pos, _-ℤ_, subℕ}
+use lib.Signed.{mag}
 use mir.Syntax.{w64}
 use mir.Val.{SFits, toZ}
 use mir.Facts.{toZ-pos}
-use Rattle.answers.specs.Checks.{mostShare, outsideShare}
-
-pub low-outside : (z : ℤ) → ltZ z (negℤ (pos mostShare)) ≡ true → outsideShare z ≡ true
-low-outside (pos a) e = absurd (false≢true e)
-low-outside (negsuc a) e = lt-ltb mostShare (suc a) (omega (arith, ltb-true (pred mostShare) a e))
-
-pub high-outside : (z : ℤ) → ltZ (pos mostShare) z ≡ true → outsideShare z ≡ true
-high-outside (pos a) e = e
-high-outside (negsuc a) e = absurd (false≢true e)
-
-pub neither-outside : (z : ℤ) → ltZ z (negℤ (pos mostShare)) ≡ false → ltZ (pos mostShare) z ≡ false → outsideShare z ≡ false
-neither-outside (pos a) low high = high
-neither-outside (negsuc a) low high = le-ltb mostShare (suc a) (omega (arith, ltb-false (pred mostShare) a low))
 
 pos-less : (a b : ℕ) → pos a -ℤ pos b ≡ subℕ a b
 pos-less a zero = rw (le-ltb a 0 (omega arith)) (ap pos (omega arith))

@@ -7,10 +7,11 @@ use native.Mathlib.Numerals.{add-one}
 use native.Mathlib.Omega.{arith}
 use borrow.Author.Tests.{ltb-false}
 use lib.IntN.{ℤ, pos, negsuc, natAbs}
-use Rattle.game.specs.Sum.{sum}
-use Rattle.game.specs.Proposal.{share, plus, minus}
-use Rattle.game.proofs.Sums.{sum-bound}
-use Rattle.answers.specs.Answer.{accepted}
+use Rattle.basics.specs.Sum.{sum}
+use Rattle.game.specs.Proposal.{share}
+use Rattle.basics.specs.Integer.{plus, minus}
+use Rattle.basics.proofs.Sums.{sum-bound}
+use Rattle.answer_forms.specs.Answer.{accepted}
 use Rattle.answers.specs.Checks.{proposalCheck, outsideShare, mostShare}
 use Rattle.checks.proofs.Range.{list-accepted}
 

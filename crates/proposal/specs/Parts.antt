@@ -4,8 +4,9 @@ use mathlib.Core.Path.{_≡_}
 use mathlib.Core.List.{List}
 use lib.ListN.{length}
 use lib.IntN.{ℤ}
-use Rattle.game.specs.Sum.{sum}
-use Rattle.game.specs.Proposal.{share, plus, minus}
+use Rattle.basics.specs.Sum.{sum}
+use Rattle.game.specs.Proposal.{share}
+use Rattle.basics.specs.Integer.{plus, minus}
 
 -- of all shares, the sum of the positive parts and that of the negative parts
 abbrev pub plusSum : List ℤ → ℕ

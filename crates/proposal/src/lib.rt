@@ -1,12 +1,9 @@
-// The check of a proposal, and the sums of its shares' positive and negative parts.
-mod check;
-
-pub use check::check_proposal;
+// The sums of a proposal's positive and negative parts, and their difference.
 ghost use Prim.Native.Nat.{_≤_};
 ghost use mathlib.Core.Path.{_≡_};
 ghost use lib.ListN.{length};
 ghost use lib.IntN.{subℕ};
-ghost use Rattle.answers.specs.Answer.{accepted};
+ghost use Rattle.answer_forms.specs.Answer.{accepted};
 ghost use Rattle.answers.specs.Checks.{proposalCheck};
 ghost use Rattle.proposal.specs.Parts.{Summed};
 

@@ -5,8 +5,8 @@ use mathlib.Core.Bool.{cond}
 use mathlib.Core.List.{List, [], _++_}
 use lib.ListN.{getD}
 use lib.IntN.{ℤ, pos}
-use Rattle.game.specs.Group.{bit}
-use Rattle.answers.specs.Answer.{Answer, value, refusal}
+use Rattle.basics.specs.Bit.{bit}
+use Rattle.answer_forms.specs.Answer.{Answer, value, refusal}
 use Rattle.answers.specs.Needs.{NeedsValue}
 use Rattle.answers.specs.Audit.{Verdict, wrongTotal, objection, pass}
 use Rattle.answers.specs.Level.{LevelAnswer, split, refusal as notSplit}

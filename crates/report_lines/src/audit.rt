@@ -6,7 +6,7 @@ ghost use mathlib.Core.Bool.{cond};
 ghost use mathlib.Core.List.{[]};
 ghost use Prim.Native.Nat.{_+_, _*_, _%_, _≤_};
 ghost use lib.ListN.{length};
-ghost use Rattle.game.specs.Group.{digit};
+ghost use Rattle.basics.specs.Bit.{digit};
 ghost use Rattle.engine.specs.Outcomes.{auditOf};
 ghost use Rattle.text.specs.Put.{Put};
 ghost use Rattle.report_lines.specs.Lines.{labelled, groupText, objectionLine, totalLine, auditLine};

@@ -8,8 +8,8 @@ use lib.ListN.{length, take, replicate, length-replicate, getD-replicate}
 use lib.Seq.{getD-take, ext-getD}
 use Rattle.game.specs.Network.{wholeCost, memberCount, members}
 use Rattle.game.specs.Tree.{Tree, network}
-use Rattle.game.proofs.Lists.{zeros-length}
-use Rattle.answers.specs.Answer.{accepted, value}
+use Rattle.basics.proofs.Lists.{zeros-length}
+use Rattle.answer_forms.specs.Answer.{accepted, value}
 use Rattle.answers.specs.Checks.{treeCheck, lengthCheck}
 use Rattle.answers.specs.Members.{membersList}
 use Rattle.answers.specs.Needs.{needsAnswer}

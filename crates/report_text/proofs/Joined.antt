@@ -5,7 +5,7 @@ use mathlib.Core.List.{List}
 use lib.IntN.{ℤ}
 use Rattle.game.specs.Network.{wholeCost, memberCount, members}
 use Rattle.game.specs.Tree.{Tree, network}
-use Rattle.answers.specs.Answer.{Answer}
+use Rattle.answer_forms.specs.Answer.{Answer}
 use Rattle.answers.specs.Audit.{Verdict, auditAnswer, auditWords}
 use Rattle.answers.specs.Level.{LevelAnswer, levelAnswer, levelList}
 use Rattle.answers.specs.ByArc.{byArcList}

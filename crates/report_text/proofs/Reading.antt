@@ -7,11 +7,11 @@ use native.Mathlib.Nat.{sub-zero}
 use lib.ListN.{length, take, length-append}
 use lib.Seq.{length-take-le}
 use Rattle.game.specs.Network.{memberCount}
-use Rattle.game.proofs.Lists.{list-length, list-part}
+use Rattle.basics.proofs.Lists.{list-length, list-part}
 use Rattle.game.specs.Tree.{treeOf, network}
-use Rattle.answers.specs.Answer.{Check, accepted, value, refusal, written}
+use Rattle.answer_forms.specs.Answer.{Check, accepted, value, refusal, written}
 use Rattle.answers.specs.Checks.{treeCheck}
-use Rattle.answers.proofs.Accepted.{answered, refused-answer}
+use Rattle.answer_forms.proofs.Composed.{answered, refused-answer}
 use Rattle.job_bytes.specs.Numbers.{entries}
 use Rattle.job_bytes.specs.Format.{jobParents, jobCosts, jobCaps, jobProposals}
 use Rattle.job.specs.JobCheck.{jobCheck}

@@ -5,7 +5,7 @@ use lib.ListN.{replicate}
 use lib.IntN.{ℤ}
 use Rattle.game.specs.Network.{wholeCost, memberCount, members}
 use Rattle.game.specs.Tree.{Tree, network}
-use Rattle.answers.specs.Answer.{Check, accepted, refused}
+use Rattle.answer_forms.specs.Answer.{Check, accepted, refused}
 use Rattle.answers.specs.Audit.{auditAnswer, auditWords}
 use Rattle.answers.specs.Level.{levelAnswer, levelList}
 use Rattle.answers.specs.ByArc.{byArcList}

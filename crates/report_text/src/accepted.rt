@@ -8,7 +8,7 @@ ghost use Prim.Native.Nat.{_+_, _*_, _≤_};
 ghost use lib.ListN.{length};
 ghost use Rattle.game.specs.Network.{wholeCost, memberCount};
 ghost use Rattle.game.specs.Tree.{treeOf, network};
-ghost use Rattle.answers.specs.Answer.{accepted};
+ghost use Rattle.answer_forms.specs.Answer.{accepted};
 ghost use Rattle.answers.specs.Checks.{treeCheck};
 ghost use Rattle.text.specs.Put.{Put};
 ghost use Rattle.report_lines.specs.Lines.{costLine};

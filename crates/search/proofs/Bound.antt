@@ -5,15 +5,17 @@ use mathlib.Core.List.{List}
 use native.Mathlib.Omega.{arith}
 use lib.ListN.{length}
 use lib.IntN.{ℤ, pos}
-use Rattle.game.specs.Sum.{sum}
+use Rattle.basics.specs.Sum.{sum}
 use Rattle.game.specs.Network.{memberCount}
 use Rattle.game.specs.Tree.{Tree, network}
-use Rattle.game.specs.Proposal.{plus, share}
+use Rattle.basics.specs.Integer.{plus}
+use Rattle.game.specs.Proposal.{share}
 use Rattle.game.proofs.Overpayment.{over-at, members-sum}
-use Rattle.answers.specs.Answer.{accepted}
+use Rattle.answer_forms.specs.Answer.{accepted}
 use Rattle.answers.specs.Checks.{treeCheck, proposalCheck, outsideShare}
 use Rattle.answers.specs.Audit.{auditCheck}
-use Rattle.answers.proofs.Accepted.{Accepted, first-accepted, second-accepted, tree-accepted}
+use Rattle.answers.proofs.Accepted.{Accepted, tree-accepted}
+use Rattle.answer_forms.proofs.Composed.{first-accepted, second-accepted}
 use Rattle.answers.proofs.Limits.{members-bound}
 use Rattle.checks.proofs.Range.{list-accepted}
 use Rattle.proposal.proofs.Sums.{plus-size, sum-most}

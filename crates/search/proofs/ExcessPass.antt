@@ -10,12 +10,13 @@ use lib.ListN.{length, getD, set, replicate, length-set, length-replicate}
 use lib.Seq.{getD-set-same, getD-set-other}
 use lib.IntN.{ℤ}
 use lib.Dec.{eqb}
-use Rattle.game.specs.Sum.{pick, sum}
+use Rattle.basics.specs.Sum.{pick, sum}
 use Rattle.game.specs.Network.{memberCount}
 use Rattle.game.specs.Tree.{Tree, network, ofArc, hasChild}
-use Rattle.game.specs.Proposal.{plus, share}
-use Rattle.game.proofs.Bools.{pick-yes}
-use Rattle.game.proofs.Sums.{In, sum-cong, term-le}
+use Rattle.basics.specs.Integer.{plus}
+use Rattle.game.specs.Proposal.{share}
+use Rattle.basics.proofs.Bools.{pick-yes}
+use Rattle.basics.proofs.Sums.{In, sum-cong, term-le}
 use Rattle.game.proofs.Below.{Rooted}
 use Rattle.game.proofs.Certificate.{children}
 use Rattle.game.proofs.ExcessOf.{excessOf, excess-of, excess-le}

@@ -10,11 +10,12 @@ use borrow.Author.Tests.{eqb-true, eq-eqb, ne-eqb, lt-ltb}
 use lib.ListN.{length, getD, set, replicate, length-set}
 use lib.Seq.{getD-set-same, getD-set-other}
 use lib.Dec.{eqb, ltb}
-use Rattle.game.specs.Sum.{pick, count}
+use Rattle.basics.specs.Sum.{pick, count}
 use Rattle.game.specs.Tree.{ofArc, hasChild}
-use Rattle.game.specs.Group.{bit, wordsOf}
-use Rattle.game.proofs.Bools.{both, and-both, pick-yes}
-use Rattle.game.proofs.Sums.{In, sum-longer, count-le}
+use Rattle.basics.specs.Bit.{bit}
+use Rattle.game.specs.Group.{wordsOf}
+use Rattle.basics.proofs.Bools.{both, and-both, pick-yes}
+use Rattle.basics.proofs.Sums.{In, sum-longer, count-le}
 use Rattle.game.proofs.Encoding.{bit-none, none-encoded}
 use Rattle.game.proofs.Numbering.{before-member}
 use Rattle.tree.specs.Passes.{Sound}

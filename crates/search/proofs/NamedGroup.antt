@@ -10,7 +10,8 @@ use lib.ListN.{getD}
 use lib.IntN.{ℤ, pos}
 use Rattle.game.specs.Network.{memberCount}
 use Rattle.game.specs.Tree.{Tree, network, hasChild}
-use Rattle.game.specs.Group.{bit, wordsOf}
+use Rattle.basics.specs.Bit.{bit}
+use Rattle.game.specs.Group.{wordsOf}
 use Rattle.game.specs.Proposal.{overpayment}
 use Rattle.game.specs.Search.{isIn, named}
 use Rattle.game.proofs.Encoding.{words-same}

@@ -7,8 +7,9 @@ use lib.ListN.{length, getD}
 use lib.IntN.{ℤ}
 use Rattle.game.specs.Network.{number, memberCount}
 use Rattle.game.specs.Tree.{Tree, treeOf, network, hasChild}
-use Rattle.game.specs.Group.{bit, wordsOf}
-use Rattle.game.proofs.Sums.{In}
+use Rattle.basics.specs.Bit.{bit}
+use Rattle.game.specs.Group.{wordsOf}
+use Rattle.basics.proofs.Sums.{In}
 use Rattle.game.proofs.Certificate.{children}
 use Rattle.game.proofs.Excess.{Excess, Active}
 use Rattle.game.proofs.Overpayment.{over-at}

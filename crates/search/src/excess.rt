@@ -3,10 +3,11 @@ ghost use mathlib.Core.Path.{_≡_};
 ghost use Prim.Native.Nat.{_<_};
 ghost use mathlib.Core.Bool.{not, false};
 ghost use lib.ListN.{length};
-ghost use Rattle.game.specs.Sum.{pick};
-ghost use Rattle.game.specs.Proposal.{plus, share};
+ghost use Rattle.basics.specs.Sum.{pick};
+ghost use Rattle.basics.specs.Integer.{plus};
+ghost use Rattle.game.specs.Proposal.{share};
 ghost use Rattle.game.specs.Tree.{treeOf};
-ghost use Rattle.answers.specs.Answer.{accepted};
+ghost use Rattle.answer_forms.specs.Answer.{accepted};
 ghost use Rattle.answers.specs.Audit.{auditCheck};
 ghost use Rattle.search.specs.Passes.{Exceeding};
 

@@ -8,7 +8,7 @@ ghost use Rattle.game.specs.Tree.{treeOf, network};
 ghost use Rattle.game.specs.Group.{wordsOf};
 ghost use Rattle.game.specs.Proposal.{overpayment};
 ghost use Rattle.game.specs.Search.{isIn, named};
-ghost use Rattle.answers.specs.Answer.{accepted};
+ghost use Rattle.answer_forms.specs.Answer.{accepted};
 ghost use Rattle.answers.specs.Audit.{auditCheck};
 
 // What the named group overpays, and its words.

@@ -10,17 +10,18 @@ use borrow.Author.Tests.{lt-ltb, le-ltb, ltb-true}
 use lib.ListN.{length, getD, set, replicate, length-set, length-replicate, getD-replicate}
 use lib.Seq.{getD-set-same, getD-set-other}
 use lib.Dec.{ltb}
-use Rattle.game.specs.Sum.{pick, sum, list}
+use Rattle.basics.specs.Sum.{pick, sum, list}
 use Rattle.game.specs.Network.{Network, sumBelow, number, memberCount, members}
 use Rattle.game.specs.Tree.{ofArc}
-use Rattle.game.proofs.Bools.{both, same-test, pick-yes, pick-no, pick-zero, pick-le}
-use Rattle.game.proofs.Sums.{In, sum-bound}
+use Rattle.basics.proofs.Bools.{both, same-test, pick-yes, pick-no, pick-zero, pick-le}
+use Rattle.basics.proofs.Sums.{In, sum-bound}
 use Rattle.game.proofs.Numbering.{members-length, member-at, Vertex, vertex-of}
 use Rattle.game.proofs.Overpayment.{number-lt}
 use Rattle.game.proofs.LevelList.{view, view-off}
 use Rattle.game.proofs.Bump.{below-cong}
 use Rattle.answers.specs.Checks.{mostShare}
-use Rattle.answers.specs.Level.{Capped, capSum}
+use Rattle.tree.specs.Passes.{Capped}
+use Rattle.answers.specs.Level.{capSum}
 
 module _ (n : Network) {vertices : List ℕ} (listed : vertices ≡ members n) where
   pub member-count : length vertices ≡ memberCount n

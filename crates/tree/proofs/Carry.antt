@@ -10,9 +10,9 @@ use borrow.Author.Tests.{eq-eqb, ne-eqb}
 use lib.ListN.{length, getD, set, replicate, length-set, length-replicate, getD-replicate}
 use lib.Seq.{getD-set-same, getD-set-other}
 use lib.Dec.{eqb}
-use Rattle.game.specs.Sum.{pick, sum, some}
+use Rattle.basics.specs.Sum.{pick, sum, some}
 use Rattle.game.specs.Tree.{ofArc}
-use Rattle.game.proofs.Sums.{In, in-more, in-last}
+use Rattle.basics.proofs.Sums.{In, in-more, in-last}
 use Rattle.tree.specs.Passes.{Sound}
 
 -- what can be added up over the numbers 1 to m, whole or under a test

@@ -8,12 +8,13 @@ use native.Mathlib.Nat.{zero-add}
 use native.Mathlib.Omega.{arith}
 use lib.ListN.{length, getD, set, replicate}
 use lib.Dec.{eqb}
-use Rattle.game.specs.Sum.{pick, sum, some}
+use Rattle.basics.specs.Sum.{pick, sum, some}
 use Rattle.game.specs.Network.{used, groupCost, wholeCost, number, memberCount}
 use Rattle.game.specs.Tree.{Tree, network, ofArc, hasChild}
-use Rattle.game.specs.Group.{bit, byNumber}
-use Rattle.game.proofs.Bools.{both, clash, not-so, and-first, pick-le}
-use Rattle.game.proofs.Sums.{In, some-of, some-is, sum-mono, count-le}
+use Rattle.basics.specs.Bit.{bit}
+use Rattle.game.specs.Group.{byNumber}
+use Rattle.basics.proofs.Bools.{both, clash, not-so, and-first, pick-le}
+use Rattle.basics.proofs.Sums.{In, some-of, some-is, sum-mono, count-le}
 use Rattle.game.proofs.Groups.{used-children}
 use Rattle.answers.proofs.Accepted.{Accepted}
 use Rattle.tree.proofs.Carry.{flags, Carried, carried-start, carried-at, carried-on}

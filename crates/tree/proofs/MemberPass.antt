@@ -9,11 +9,11 @@ use native.Mathlib.Omega.{arith}
 use lib.ListN.{length, getD, set, drop, replicate, length-append, length-set}
 use lib.Seq.{drop-cons, drop-set-lt, getD-set-same, drop-length}
 use lib.Dec.{eqb}
-use Rattle.game.specs.Sum.{pick, count}
+use Rattle.basics.specs.Sum.{pick, count}
 use Rattle.game.specs.Network.{everyone, membersTo}
 use Rattle.game.specs.Tree.{ofArc, hasChild}
-use Rattle.game.proofs.Bools.{both, or-second}
-use Rattle.game.proofs.Sums.{some-cong}
+use Rattle.basics.proofs.Bools.{both, or-second}
+use Rattle.basics.proofs.Sums.{some-cong}
 use Rattle.game.proofs.Numbering.{members-yes, members-no, members-length}
 use Rattle.tree.specs.Passes.{Sound}
 use Rattle.tree.proofs.Carry.{flags, children, Carried, carried-start, carried-at, carried-on}

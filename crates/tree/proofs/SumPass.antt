@@ -7,13 +7,13 @@ use native.Mathlib.Omega.{arith}
 use borrow.Author.Tests.{eq-eqb}
 use lib.ListN.{length, getD, set, replicate, length-set}
 use lib.Seq.{getD-set-same, getD-set-other}
-use Rattle.game.specs.Sum.{sum, list}
+use Rattle.basics.specs.Sum.{sum, list}
 use Rattle.game.specs.Network.{sumBelow}
 use Rattle.game.specs.Tree.{treeOf, network, ofArc}
-use Rattle.game.proofs.Bools.{pick-yes}
+use Rattle.basics.proofs.Bools.{pick-yes}
 use Rattle.game.proofs.Below.{sum-below-children, sum-from-source}
 use Rattle.game.proofs.SumBounds.{sum-below-le, children-le}
-use Rattle.game.proofs.Lists.{list-is}
+use Rattle.basics.proofs.Lists.{list-is}
 use Rattle.tree.specs.Passes.{Sound}
 use Rattle.tree.proofs.Carry.{amounts, child, Carried, carried-start, carried-at, carried-on}
 

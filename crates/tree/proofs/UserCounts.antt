@@ -5,15 +5,15 @@ use mathlib.Core.List.{List, []}
 use native.Mathlib.Decide.{decLt}
 use native.Mathlib.Omega.{arith}
 use lib.ListN.{length, getD, replicate, length-replicate, getD-replicate, List·getD-eq-default}
-use Rattle.game.specs.Sum.{pick, list}
+use Rattle.basics.specs.Sum.{pick, list, size}
 use Rattle.game.specs.Network.{memberCount}
 use Rattle.game.specs.Tree.{treeOf, network}
-use Rattle.game.specs.Group.{size}
 use Rattle.game.specs.Core.{users}
 use Rattle.game.specs.ByArc.{userCount}
-use Rattle.game.proofs.Sums.{sum-cong}
+use Rattle.basics.proofs.Sums.{sum-cong}
 use Rattle.game.proofs.Core.{users-by-vertex}
-use Rattle.answers.specs.Level.{Capped, capSum}
+use Rattle.tree.specs.Passes.{Capped}
+use Rattle.answers.specs.Level.{capSum}
 
 -- k ones, one a member
 module _ {ones : List ℕ} {k : ℕ} (are : ones ≡ replicate k 1) where

@@ -6,7 +6,7 @@ use native.Mathlib.Omega.{arith}
 use lib.ListN.{length}
 use Rattle.game.specs.Network.{memberCount, members}
 use Rattle.game.specs.Tree.{treeOf, network}
-use Rattle.game.proofs.Sums.{count-le}
+use Rattle.basics.proofs.Sums.{count-le}
 use Rattle.tree.specs.Passes.{Sound}
 use Rattle.tree.proofs.MemberPass.{isMember}
 use Rattle.tree.proofs.CapPass.{member-count}

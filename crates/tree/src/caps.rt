@@ -4,11 +4,11 @@ use crate::sums::add_up;
 ghost use mathlib.Core.Path.{_≡_};
 ghost use mathlib.Core.List.{[]};
 ghost use lib.ListN.{length};
-ghost use Rattle.game.specs.Sum.{list};
+ghost use Rattle.basics.specs.Sum.{list};
 ghost use Rattle.game.specs.Network.{members};
 ghost use Rattle.game.specs.Tree.{treeOf, network};
-ghost use Rattle.answers.specs.Level.{Capped, capSum};
-ghost use Rattle.tree.specs.Passes.{Sound};
+ghost use Rattle.tree.specs.Passes.{Capped, Sound};
+ghost use Rattle.answers.specs.Level.{capSum};
 
 // Writes for each arc what the caps of its users add up to.
 pub fn write_cap_sums(parents: &[u16], vertices: &[u16], caps: &[u64], out: &mut [u64])

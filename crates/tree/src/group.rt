@@ -2,11 +2,12 @@
 use crate::members::one_if_member;
 ghost use mathlib.Core.Path.{_≡_};
 ghost use mathlib.Core.Bool.{_||_, cond};
-ghost use Rattle.game.specs.Sum.{pick};
+ghost use Rattle.basics.specs.Sum.{pick};
 ghost use Rattle.game.specs.Network.{groupCost, memberCount};
 ghost use Rattle.game.specs.Tree.{treeOf, network};
-ghost use Rattle.game.specs.Group.{bit, byNumber};
-ghost use Rattle.answers.specs.Answer.{accepted};
+ghost use Rattle.basics.specs.Bit.{bit};
+ghost use Rattle.game.specs.Group.{byNumber};
+ghost use Rattle.answer_forms.specs.Answer.{accepted};
 ghost use Rattle.answers.specs.Checks.{treeCheck};
 
 // An arc is used by a child arc, or at a member by being chosen.

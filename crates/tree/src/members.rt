@@ -4,7 +4,7 @@ ghost use Prim.Native.Nat.{_≤_, _-_};
 ghost use mathlib.Core.Bool.{not, cond, false};
 ghost use mathlib.Core.List.{[]};
 ghost use lib.ListN.{length, set};
-ghost use Rattle.game.specs.Sum.{pick};
+ghost use Rattle.basics.specs.Sum.{pick};
 ghost use Rattle.game.specs.Network.{memberCount, members};
 ghost use Rattle.game.specs.Tree.{treeOf, network};
 ghost use Rattle.tree.specs.Passes.{Sound};

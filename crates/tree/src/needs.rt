@@ -2,10 +2,10 @@
 use crate::sums::add_up;
 ghost use mathlib.Core.Path.{_≡_};
 ghost use lib.ListN.{length};
-ghost use Rattle.game.specs.Sum.{list};
+ghost use Rattle.basics.specs.Sum.{list};
 ghost use Rattle.game.specs.Network.{need, wholeCost};
 ghost use Rattle.game.specs.Tree.{treeOf, network};
-ghost use Rattle.answers.specs.Answer.{accepted};
+ghost use Rattle.answer_forms.specs.Answer.{accepted};
 ghost use Rattle.answers.specs.Checks.{treeCheck};
 
 // Copies the costs.

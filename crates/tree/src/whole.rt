@@ -2,7 +2,7 @@
 ghost use mathlib.Core.Path.{_≡_};
 ghost use Prim.Native.Nat.{_≤_};
 ghost use lib.ListN.{length};
-ghost use Rattle.game.specs.Sum.{sum};
+ghost use Rattle.basics.specs.Sum.{sum};
 ghost use Rattle.game.specs.Tree.{ofArc};
 
 // The sum of all costs.

@@ -7,15 +7,16 @@ use borrow.Author.Tests.{eq-eqb}
 use lib.ListN.{length, getD, take, drop}
 use lib.Seq.{drop-cons}
 use lib.Dec.{eqb}
-use Rattle.game.specs.Sum.{pick, sum, list}
+use Rattle.basics.specs.Sum.{pick, sum, list}
 use Rattle.game.specs.Network.{Network, atOrBelow, memberCount, members}
 use Rattle.game.specs.Tree.{treeOf, network, ofArc}
 use Rattle.game.specs.Core.{users}
 use Rattle.game.specs.ByArc.{userCount}
-use Rattle.game.proofs.Bools.{pick-yes}
-use Rattle.game.proofs.Sums.{In, sum-cong, sum-at, sum-longer, term-le, count-le}
-use Rattle.game.proofs.Sizes.{size-le}
-use Rattle.game.proofs.Lists.{list-length, list-at, of-list}
+use Rattle.basics.proofs.Bools.{pick-yes}
+use Rattle.basics.proofs.Sums.{In, sum-cong, sum-at, sum-longer, term-le, count-le}
+use Rattle.basics.proofs.Sizes.{size-le}
+use Rattle.basics.proofs.Lists.{list-length, list-at}
+use Rattle.game.proofs.ArcEntries.{of-list}
 use Rattle.game.proofs.Below.{below-self}
 use Rattle.game.proofs.Shapley.{user-count-pos}
 use Rattle.answers.proofs.CoreLaws.{members-end}

@@ -8,8 +8,8 @@ use borrow.Author.Tests.{eq-eqb, ne-eqb}
 use lib.ListN.{length, getD, set, replicate, length-set, length-replicate}
 use lib.Seq.{getD-set-same, getD-set-other}
 use Rattle.game.specs.Tree.{ofArc}
-use Rattle.game.proofs.Bools.{pick-yes, pick-no}
-use Rattle.game.proofs.Sums.{In, sum-zero}
+use Rattle.basics.proofs.Bools.{pick-yes, pick-no}
+use Rattle.basics.proofs.Sums.{In, sum-zero}
 use Rattle.tree.specs.Passes.{Sound}
 use Rattle.users.specs.Layout.{Counts, leaving, Begins, Begun}
 

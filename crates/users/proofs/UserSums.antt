@@ -3,13 +3,12 @@ use Prim.Native.Nat.{ℕ, pred, _+_}
 use mathlib.Core.Path.{_≡_, sym, ap, _∙_, subst, fun-ext}
 use mathlib.Core.Bool.{true}
 use lib.ListN.{getD}
-use Rattle.game.specs.Sum.{pick, sum}
+use Rattle.basics.specs.Sum.{pick, sum, size}
 use Rattle.game.specs.Network.{Network, atOrBelow, sumBelow, number, memberCount, members}
-use Rattle.game.specs.Group.{size}
 use Rattle.game.specs.Core.{users}
 use Rattle.game.specs.ByArc.{userCount}
-use Rattle.game.proofs.Bools.{pick-same, pick-yes}
-use Rattle.game.proofs.Sums.{In, sum-cong}
+use Rattle.basics.proofs.Bools.{pick-same, pick-yes}
+use Rattle.basics.proofs.Sums.{In, sum-cong}
 use Rattle.game.proofs.Below.{Rooted, sum-below-children, sum-from-source}
 use Rattle.game.proofs.Certificate.{children}
 use Rattle.game.proofs.Excess.{MembersEnd}

@@ -6,11 +6,11 @@ use mathlib.Core.Logic.{⊎-elim}
 use native.Mathlib.Omega.{arith}
 use borrow.Author.Tests.{eqb-true, eq-eqb}
 use lib.Dec.{eqb}
-use Rattle.game.specs.Sum.{pick, sum}
+use Rattle.basics.specs.Sum.{pick, sum}
 use Rattle.game.specs.Network.{Network, sumBelow, memberCount}
 use Rattle.game.specs.ByArc.{userCount}
-use Rattle.game.proofs.Bools.{both, pick-yes, pick-no}
-use Rattle.game.proofs.Sums.{In, sum-longer}
+use Rattle.basics.proofs.Bools.{both, pick-yes, pick-no}
+use Rattle.basics.proofs.Sums.{In, sum-longer}
 use Rattle.game.proofs.Below.{Rooted, from-source, child-after, sum-below-children, sum-from-source}
 use Rattle.game.proofs.Excess.{MembersEnd}
 use Rattle.game.proofs.Core.{own-sum}

@@ -3,7 +3,7 @@ use Prim.Native.Nat.{ℕ, pred, _+_, _≤_}
 use mathlib.Core.Path.{_≡_}
 use mathlib.Core.List.{List, [], _∷_}
 use lib.ListN.{length, take, drop}
-use Rattle.game.specs.Sum.{pick, sum}
+use Rattle.basics.specs.Sum.{pick, sum}
 use Rattle.game.specs.Network.{Network, memberCount}
 use Rattle.game.specs.Tree.{ofArc}
 use Rattle.game.specs.Core.{users}

@@ -1,7 +1,7 @@
 use mathlib.Core.Path.{_≡_, sym, _∙_}
 use native.Mathlib.Omega.{arith}
 use borrow.Author.Needs.{needs}
-use Rattle.game.specs.Group.{bit}
+use Rattle.basics.specs.Bit.{bit}
 use Rattle.bits.proofs.Words.{clear-rest}
 use Rattle.bits.proofs.clear_run.Statement.{statement}
 use Rattle.bits.proofs.clear_run.Tie as tie

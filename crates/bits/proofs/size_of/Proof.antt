@@ -4,8 +4,9 @@ use mathlib.Core.Path.{_≡_}
 use native.Mathlib.Omega.{arith}
 use borrow.Author.Needs.{needs}
 use lib.ListN.{getD}
-use Rattle.game.specs.Group.{digit, bit, size}
-use Rattle.game.proofs.Sizes.{size-le}
+use Rattle.basics.specs.Bit.{digit, bit}
+use Rattle.basics.specs.Sum.{size}
+use Rattle.basics.proofs.Sizes.{size-le}
 use Rattle.bits.proofs.Words.{size-word}
 use Rattle.bits.proofs.size_of.Statement.{statement}
 use Rattle.bits.proofs.size_of.Tie as tie

@@ -1,8 +1,8 @@
 use mathlib.Core.Path.{_≡_}
 use borrow.Author.Needs.{needs}
 use denote.Ref.{now}
-use Rattle.answers.specs.Answer.{accepted}
-use Rattle.checks.proofs.Opened.{opened}
+use Rattle.answer_forms.specs.Answer.{accepted}
+use Rattle.answer_forms.proofs.Opened.{opened}
 use Rattle.job_form.specs.Form.{formCheck}
 use Rattle.job_form.proofs.Composed.{stopped, went-on}
 use Rattle.job_form.proofs.FormAccepted.{form-layout}

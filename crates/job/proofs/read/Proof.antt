@@ -3,8 +3,8 @@ use borrow.Author.Needs.{needs}
 use native.Mathlib.Omega.{arith}
 use lib.ListN.{length}
 use denote.Ref.{now}
-use Rattle.answers.specs.Answer.{accepted}
-use Rattle.checks.proofs.Opened.{opened, turned-away}
+use Rattle.answer_forms.specs.Answer.{accepted}
+use Rattle.answer_forms.proofs.Opened.{opened, turned-away}
 use Rattle.job_form.proofs.FormAccepted.{form-layout}
 use Rattle.job.specs.JobCheck.{jobCheck}
 use Rattle.job.specs.Reader.{roomCheck}

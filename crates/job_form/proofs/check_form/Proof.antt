@@ -2,8 +2,8 @@ use mathlib.Core.Path.{_≡_}
 use borrow.Author.Needs.{needs}
 use lib.ListN.{length}
 use denote.Ref.{now}
-use Rattle.answers.specs.Answer.{accepted}
-use Rattle.checks.proofs.Opened.{opened}
+use Rattle.answer_forms.specs.Answer.{accepted}
+use Rattle.answer_forms.proofs.Opened.{opened}
 use Rattle.job_form.specs.Form.{sizeCheck, formCheck}
 use Rattle.job_form.proofs.Composed.{stopped, went-on}
 use Rattle.job_form.proofs.FormAccepted.{size-accepted}

@@ -8,7 +8,7 @@ use lib.ListN.{length}
 use lib.IntN.{ℤ, natAbs}
 use mir.Syntax.{w64}
 use mir.Facts.{toZ-ofZ}
-use Rattle.game.specs.Proposal.{plus, minus}
+use Rattle.basics.specs.Integer.{plus, minus}
 use Rattle.proposal.proofs.Sums.{partSum, plus-size, minus-size, sum-next, sum-most}
 use Rattle.proposal.proofs.parts_of.Statement.{statement}
 use Rattle.proposal.proofs.parts_of.Tie as tie

@@ -4,7 +4,7 @@ use denote.Ref.{now}
 use native.Mathlib.Numerals.{add-one}
 use native.Mathlib.Omega.{arith}
 use borrow.Author.Needs.{needs}
-use Rattle.game.proofs.Sums.{In}
+use Rattle.basics.proofs.Sums.{In}
 use Rattle.users.specs.Layout.{Apart}
 use Rattle.users.proofs.Parts.{entry}
 use Rattle.users.proofs.OrderPass.{Ordering, ordering-start, ordering-on, ordering-end}

@@ -4,7 +4,7 @@ use lib.ListN.{length}
 use denote.Ref.{now}
 use Rattle.game.specs.Tree.{treeOf}
 use Rattle.answers.proofs.Accepted.{tree-accepted}
-use Rattle.game.proofs.Lists.{zeros-length}
+use Rattle.basics.proofs.Lists.{zeros-length}
 use borrow.Author.Needs.{needs}
 use Rattle.by_arc.proofs.arcs.split_arcs.Statement.{statement}
 use Rattle.by_arc.proofs.arcs.split_arcs.Tie as tie

@@ -1,7 +1,7 @@
 use mathlib.Core.Path.{sym, ap}
 use borrow.Author.Needs.{needs}
-use Rattle.checks.specs.declared.Checked.{Checked}
-use Rattle.checks.specs.Checked.{checkOf}
+use Rattle.answer_forms.specs.declared.Checked.{Checked}
+use Rattle.answer_forms.specs.Checked.{checkOf}
 use Rattle.capi.specs.Structs.{encodeCheck}
 use Rattle.capi.proofs.check.encode.Statement.{statement}
 use Rattle.capi.proofs.check.encode.Tie as tie

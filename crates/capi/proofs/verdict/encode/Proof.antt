@@ -5,7 +5,7 @@ use lib.IntN.{ℤ}
 use mir.Syntax.{w64}
 use mir.Facts.{toZ-ofZ}
 use borrow.Author.Needs.{needs}
-use Rattle.answers.specs.Answer.{value}
+use Rattle.answer_forms.specs.Answer.{value}
 use Rattle.answers.specs.Audit.{wrongTotal}
 use Rattle.engine.specs.Outcomes.{auditOf}
 use Rattle.engine.specs.declared.verdict.AuditFound.{AuditFound}

@@ -2,7 +2,7 @@ use mathlib.Core.Path.{ap, _∙_}
 use denote.Ref.{now}
 use borrow.Author.Needs.{needs}
 use Rattle.game.specs.Tree.{treeOf}
-use Rattle.answers.specs.Answer.{Answer}
+use Rattle.answer_forms.specs.Answer.{Answer}
 use Rattle.answers.specs.Audit.{Verdict, auditWords}
 use Rattle.engine.specs.Outcomes.{auditOf}
 use Rattle.capi.specs.Structs.{encodeAudit, decodeAudit}

@@ -5,14 +5,14 @@ use native.Mathlib.Omega.{arith}
 use borrow.Author.Needs.{needs}
 use Rattle.game.specs.Network.{memberCount}
 use Rattle.game.specs.Tree.{treeOf, network}
-use Rattle.answers.specs.Answer.{accepted}
+use Rattle.answer_forms.specs.Answer.{accepted}
 use Rattle.answers.specs.Checks.{treeCheck, groupCheck}
 use Rattle.answers.specs.GroupCost.{groupCostAnswer}
 use Rattle.answers.proofs.Accepted.{tree-accepted}
 use Rattle.answers.proofs.Limits.{members-bound}
 use Rattle.bits.proofs.Beyond.{size-within}
-use Rattle.checks.specs.Checked.{checkOf}
-use Rattle.checks.proofs.Opened.{opened, turned-away}
+use Rattle.answer_forms.specs.Checked.{checkOf}
+use Rattle.answer_forms.proofs.Opened.{opened, turned-away}
 use Rattle.tree.proofs.Bounds.{sound}
 use Rattle.engine.proofs.group.group_cost.Statement.{statement}
 use Rattle.engine.proofs.group.group_cost.Tie as tie

@@ -2,11 +2,11 @@ use mathlib.Core.Path.{_≡_}
 use denote.Ref.{now}
 use borrow.Author.Needs.{needs}
 use Rattle.game.specs.Tree.{treeOf}
-use Rattle.answers.specs.Answer.{accepted}
+use Rattle.answer_forms.specs.Answer.{accepted}
 use Rattle.answers.specs.Checks.{treeCheck}
 use Rattle.answers.specs.Members.{memberCountAnswer}
 use Rattle.answers.proofs.Accepted.{tree-accepted}
-use Rattle.checks.proofs.Opened.{opened, turned-away}
+use Rattle.answer_forms.proofs.Opened.{opened, turned-away}
 use Rattle.tree.proofs.Bounds.{sound}
 use Rattle.engine.proofs.members.count_members.Statement.{statement}
 use Rattle.engine.proofs.members.count_members.Tie as tie

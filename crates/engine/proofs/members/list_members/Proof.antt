@@ -5,12 +5,12 @@ use denote.Ref.{now}
 use borrow.Author.Needs.{needs}
 use Rattle.game.specs.Network.{memberCount}
 use Rattle.game.specs.Tree.{treeOf, network}
-use Rattle.answers.specs.Answer.{accepted}
+use Rattle.answer_forms.specs.Answer.{accepted}
 use Rattle.answers.specs.Checks.{treeCheck, lengthCheck}
 use Rattle.answers.specs.Members.{membersAnswer, membersList}
 use Rattle.answers.proofs.Accepted.{tree-accepted, length-accepted}
-use Rattle.checks.specs.Checked.{checkOf}
-use Rattle.checks.proofs.Opened.{opened, turned-away}
+use Rattle.answer_forms.specs.Checked.{checkOf}
+use Rattle.answer_forms.proofs.Opened.{opened, turned-away}
 use Rattle.tree.proofs.Bounds.{sound}
 use Rattle.engine.proofs.members.list_members.Statement.{statement}
 use Rattle.engine.proofs.members.list_members.Tie as tie

@@ -3,11 +3,11 @@ use lib.ListN.{length}
 use denote.Ref.{now}
 use borrow.Author.Needs.{needs}
 use Rattle.game.specs.Tree.{treeOf}
-use Rattle.answers.specs.Answer.{accepted}
+use Rattle.answer_forms.specs.Answer.{accepted}
 use Rattle.answers.specs.Checks.{treeCheck, lengthCheck}
 use Rattle.answers.specs.Needs.{needsAnswer, needsList}
 use Rattle.answers.proofs.Accepted.{tree-accepted, length-accepted}
-use Rattle.checks.proofs.Opened.{opened, turned-away}
+use Rattle.answer_forms.proofs.Opened.{opened, turned-away}
 use Rattle.tree.proofs.Bounds.{sound}
 use Rattle.engine.proofs.needs.list_needs.Statement.{statement}
 use Rattle.engine.proofs.needs.list_needs.Tie as tie

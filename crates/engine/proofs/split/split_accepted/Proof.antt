@@ -5,7 +5,8 @@ use denote.Ref.{now}
 use Rattle.game.specs.Network.{memberCount}
 use Rattle.game.specs.Tree.{treeOf, network, ofArc}
 use Rattle.game.specs.Level.{level}
-use Rattle.answers.specs.Level.{LevelAnswer, split, Capped, shortArc, splitOr9, listAfter}
+use Rattle.answers.specs.Level.{LevelAnswer, split, shortArc, splitOr9, listAfter}
+use Rattle.tree.specs.Passes.{Capped}
 use Rattle.answers.proofs.Accepted.{tree-accepted}
 use Rattle.tree.proofs.Bounds.{sound}
 use Rattle.level.specs.Found.{answerOf}

@@ -5,15 +5,15 @@ use lib.ListN.{length}
 use denote.Ref.{now}
 use Rattle.game.specs.Network.{memberCount}
 use Rattle.game.specs.Tree.{treeOf, network}
-use Rattle.answers.specs.Answer.{accepted}
+use Rattle.answer_forms.specs.Answer.{accepted}
 use Rattle.answers.specs.Checks.{treeCheck, lengthCheck}
 use Rattle.answers.specs.Level.{capsCheck}
 use Rattle.answers.proofs.Accepted.{tree-accepted, length-accepted}
 use Rattle.answers.proofs.Limits.{members-bound}
-use Rattle.checks.specs.Checked.{checkOf}
-use Rattle.checks.proofs.Opened.{opened, turned-away}
+use Rattle.answer_forms.specs.Checked.{checkOf}
+use Rattle.answer_forms.proofs.Opened.{opened, turned-away}
 use Rattle.tree.proofs.Bounds.{sound}
-use Rattle.game.proofs.Lists.{zeros-length}
+use Rattle.basics.proofs.Lists.{zeros-length}
 use Rattle.engine.proofs.LevelAnswer.{tree-turned-down, caps-turned-down, output-turned-down, all-accepted}
 use borrow.Author.Needs.{needs}
 use Rattle.engine.proofs.split.split_level.Statement.{statement}

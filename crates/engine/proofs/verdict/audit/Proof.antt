@@ -7,16 +7,16 @@ use native.Mathlib.Omega.{arith}
 use borrow.Author.Needs.{needs}
 use mir.Syntax.{w64}
 use mir.Facts.{toZ-ofZ}
-use Rattle.game.specs.Sum.{sum}
+use Rattle.basics.specs.Sum.{sum}
 use Rattle.game.specs.Network.{memberCount, wholeCost}
 use Rattle.game.specs.Tree.{treeOf, network, ofArc}
-use Rattle.answers.specs.Answer.{accepted, value}
+use Rattle.answer_forms.specs.Answer.{accepted, value}
 use Rattle.answers.specs.Checks.{treeCheck, proposalCheck, outsideShare}
 use Rattle.answers.specs.Audit.{auditCheck, wrongTotal}
 use Rattle.answers.proofs.Accepted.{tree-accepted}
 use Rattle.answers.proofs.Limits.{members-bound, whole-bound}
-use Rattle.checks.specs.Checked.{checkOf}
-use Rattle.checks.proofs.Opened.{opened, turned-away}
+use Rattle.answer_forms.specs.Checked.{checkOf}
+use Rattle.answer_forms.proofs.Opened.{opened, turned-away}
 use Rattle.checks.proofs.Range.{list-accepted}
 use Rattle.tree.proofs.Bounds.{sound}
 use Rattle.engine.proofs.AuditAnswer.{words-beside, tree-turned-down, shares-turned-down, right-total, off-total}

@@ -7,9 +7,11 @@ use lib.IntN.{pos}
 use native.Mathlib.Omega.{arith}
 use borrow.Author.Needs.{needs}
 use borrow.Author.Tests.{lt-ltb}
-use Rattle.game.specs.Group.{bit, size}
-use Rattle.answers.specs.Answer.{value}
-use Rattle.answers.proofs.Accepted.{first-accepted, tree-accepted}
+use Rattle.basics.specs.Bit.{bit}
+use Rattle.basics.specs.Sum.{size}
+use Rattle.answer_forms.specs.Answer.{value}
+use Rattle.answer_forms.proofs.Composed.{first-accepted}
+use Rattle.answers.proofs.Accepted.{tree-accepted}
 use Rattle.answers.proofs.Limits.{members-bound}
 use Rattle.engine.proofs.NamedSize.{named-size}
 use Rattle.engine.proofs.verdict.search_verdict.Statement.{statement}

@@ -5,7 +5,7 @@ use borrow.Author.Needs.{needs}
 use lib.ListN.{length, getD, drop}
 use lib.Dec.{ltb}
 use denote.Ref.{now}
-use Rattle.game.proofs.Bools.{pick-le}
+use Rattle.basics.proofs.Bools.{pick-le}
 use Rattle.users.specs.Users.{total}
 use Rattle.fill.specs.Fill.{mostKey, aim, taken, filled, Numbers}
 use Rattle.fill.proofs.Turns.{took-most, total-turn, total-end}

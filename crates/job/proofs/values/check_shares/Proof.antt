@@ -2,8 +2,8 @@ use mathlib.Core.Path.{_≡_}
 use borrow.Author.Needs.{needs}
 use denote.Ref.{now}
 use Rattle.answers.specs.Level.{capsCheck}
-use Rattle.checks.specs.Checked.{checkOf}
-use Rattle.checks.proofs.Opened.{opened}
+use Rattle.answer_forms.specs.Checked.{checkOf}
+use Rattle.answer_forms.proofs.Opened.{opened}
 use Rattle.job_bytes.specs.Numbers.{entries}
 use Rattle.job_bytes.specs.Format.{capAt}
 use Rattle.job_bytes.proofs.Entries.{front-taken}

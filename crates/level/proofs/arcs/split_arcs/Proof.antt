@@ -1,7 +1,7 @@
 use native.Mathlib.Omega.{arith}
 use Rattle.answers.proofs.Accepted.{tree-accepted}
 use Rattle.tree.proofs.Bounds.{sound}
-use Rattle.game.proofs.Lists.{zeros-length}
+use Rattle.basics.proofs.Lists.{zeros-length}
 use Rattle.tree.proofs.Vertices.{vertices-few}
 use borrow.Author.Needs.{needs}
 use Rattle.level.proofs.arcs.split_arcs.Statement.{statement}

@@ -2,7 +2,7 @@ use native.Mathlib.Omega.{arith}
 use denote.Ref.{now}
 use Rattle.game.specs.Tree.{treeOf}
 use Rattle.answers.proofs.Accepted.{tree-accepted}
-use Rattle.game.proofs.Lists.{zeros-length}
+use Rattle.basics.proofs.Lists.{zeros-length}
 use borrow.Author.Needs.{needs}
 use Rattle.level.proofs.short.find_short.Statement.{statement}
 use Rattle.level.proofs.short.find_short.Tie as tie

@@ -1,7 +1,7 @@
 use Prim.Native.Nat.{_-_}
 use mathlib.Core.Path.{refl}
 use native.Mathlib.Omega.{arith}
-use Rattle.game.specs.Group.{bit}
+use Rattle.basics.specs.Bit.{bit}
 use Rattle.report_lines.specs.Lines.{groupText}
 use Rattle.report_lines.proofs.Listing.{Listed, listed-start, listed-on, listed-end}
 use borrow.Author.Needs.{needs}

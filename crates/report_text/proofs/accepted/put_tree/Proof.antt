@@ -1,5 +1,5 @@
 use native.Mathlib.Omega.{arith}
-use Rattle.game.proofs.Lists.{zeros-length}
+use Rattle.basics.proofs.Lists.{zeros-length}
 use Rattle.answers.proofs.Accepted.{tree-accepted}
 use Rattle.report_text.proofs.Found.{few-members}
 use Rattle.report_text.proofs.Joined.{tree-joined}

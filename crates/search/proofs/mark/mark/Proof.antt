@@ -4,7 +4,7 @@ use lib.ListN.{length, getD}
 use native.Mathlib.Numerals.{add-one}
 use native.Mathlib.Omega.{arith}
 use borrow.Author.Needs.{needs}
-use Rattle.game.proofs.Bools.{pick-le}
+use Rattle.basics.proofs.Bools.{pick-le}
 use Rattle.tree.specs.Passes.{Sound}
 use Rattle.search.specs.Passes.{Ends}
 use Rattle.search.proofs.MarkPass.{Marking, marking-start, marking-on, marking-end}

@@ -5,7 +5,7 @@ use native.Mathlib.Omega.{arith}
 use lib.IntN.{ℤ, pos, negsuc}
 use mir.Facts.{toZ-ofZ}
 use borrow.Author.Needs.{needs}
-use Rattle.game.specs.Proposal.{plus, minus}
+use Rattle.basics.specs.Integer.{plus, minus}
 use Rattle.text.specs.Decimal.{decimal, signedDecimal}
 use Rattle.text.proofs.number.put_signed.Statement.{statement}
 use Rattle.text.proofs.number.put_signed.Tie as tie

@@ -7,7 +7,7 @@ use native.Mathlib.Omega.{arith}
 use borrow.Author.Needs.{needs}
 use Rattle.game.specs.Network.{members}
 use Rattle.game.specs.Tree.{treeOf, network}
-use Rattle.game.proofs.Sums.{In}
+use Rattle.basics.proofs.Sums.{In}
 use Rattle.tree.specs.Passes.{Sound}
 use Rattle.tree.proofs.CapPass.{Placing, placing-start, member-in, placing-on, placing-fits, placing-sums}
 use Rattle.tree.proofs.caps.write_cap_sums.Statement.{statement}

@@ -6,7 +6,7 @@ use denote.Ref.{now}
 use native.Mathlib.Omega.{arith}
 use borrow.Author.Needs.{needs}
 use Rattle.game.specs.Tree.{treeOf}
-use Rattle.game.specs.Group.{bit}
+use Rattle.basics.specs.Bit.{bit}
 use Rattle.answers.proofs.Accepted.{Accepted, tree-accepted}
 use Rattle.tree.proofs.GroupPass.{Costing, inUse, costing-start, costing-room, costing-few, costing-number, costing-used, costing-fits, costing-on, costing-end}
 use Rattle.tree.proofs.group.cost_of.Statement.{statement}

@@ -3,7 +3,7 @@ use mathlib.Core.Bool.{not, false}
 use lib.ListN.{length, getD}
 use native.Mathlib.Omega.{arith}
 use borrow.Author.Needs.{needs}
-use Rattle.game.proofs.Bools.{pick-le}
+use Rattle.basics.proofs.Bools.{pick-le}
 use Rattle.tree.specs.Passes.{Sound}
 use Rattle.tree.proofs.MemberPass.{Counting, counting-start, counting-on, counting-end}
 use Rattle.tree.proofs.members.count_members.Statement.{statement}

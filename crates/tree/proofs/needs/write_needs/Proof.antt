@@ -4,7 +4,7 @@ use mathlib.Core.List.{List, []}
 use lib.ListN.{length}
 use native.Mathlib.Omega.{arith}
 use borrow.Author.Needs.{needs}
-use Rattle.game.specs.Sum.{sum, list}
+use Rattle.basics.specs.Sum.{sum, list}
 use Rattle.game.specs.Network.{sumBelow, need, wholeCost}
 use Rattle.game.specs.Tree.{treeOf, network, ofArc}
 use Rattle.answers.proofs.Accepted.{Accepted, tree-accepted}

@@ -4,7 +4,7 @@ use lib.ListN.{length, getD}
 use denote.Ref.{now}
 use native.Mathlib.Omega.{arith}
 use borrow.Author.Needs.{needs}
-use Rattle.game.specs.Sum.{sum}
+use Rattle.basics.specs.Sum.{sum}
 use Rattle.game.specs.Tree.{ofArc}
 use Rattle.tree.specs.Passes.{Sound}
 use Rattle.tree.proofs.SumPass.{total, Summing, summing-start, summing-at, summing-fits, summing-carry, summing-on, summing-end, summing-whole}

@@ -5,7 +5,7 @@ use denote.Ref.{now}
 use native.Mathlib.Numerals.{add-one}
 use native.Mathlib.Omega.{arith}
 use borrow.Author.Needs.{needs}
-use Rattle.game.specs.Sum.{sum}
+use Rattle.basics.specs.Sum.{sum}
 use Rattle.game.specs.Tree.{ofArc}
 use Rattle.tree.proofs.whole.whole_cost.Statement.{statement}
 use Rattle.tree.proofs.whole.whole_cost.Tie as tie

@@ -1,0 +1,31 @@
+-- What it means that composed checks are accepted, and what an answer says of its check.
+use Prim.Native.Nat.{ℕ}
+use mathlib.Core.Path.{_≡_, refl}
+use mathlib.Core.Bool.{Bool, true, false}
+use native.Mathlib.Omega.{arith}
+use Rattle.answer_forms.specs.Answer.{Check, accepted, refused, fault, _then_, value, refusal, answer}
+
+not-refused : {number place : ℕ} → refused number place ≡ accepted → ⊥
+not-refused e = let z : _≡_ {A = ℕ} 0 1 = cc in omega arith
+
+pub first-accepted : (a b : Check) → (a then b) ≡ accepted → a ≡ accepted
+first-accepted accepted b e = refl
+first-accepted (refused number place) b e = e
+
+pub second-accepted : (a b : Check) → (a then b) ≡ accepted → b ≡ accepted
+second-accepted accepted b e = e
+second-accepted (refused number place) b e = absurd (not-refused e)
+
+pub no-fault : (b : Bool) (number place : ℕ) → fault b number place ≡ accepted → b ≡ false
+no-fault true number place e = absurd (not-refused e)
+no-fault false number place e = refl
+
+-- an answer that is a value: the check finds nothing
+pub answered : {A : Type 0} (check : Check) (x v : A) → answer check x ≡ value v → (check ≡ accepted) × (v ≡ x)
+answered accepted x v e = (refl, cc)
+answered (refused number place) x v e = let z : _≡_ {A = ℕ} 0 1 = cc in absurd (omega arith)
+
+-- an answer that is a refusal: the check found it
+pub refused-answer : {A : Type 0} (check : Check) (x : A) {number place : ℕ} → refusal number place ≡ answer check x → check ≡ refused number place
+refused-answer accepted x e = let z : _≡_ {A = ℕ} 0 1 = cc in absurd (omega arith)
+refused-answer (refused number place) x e = cc

@@ -1,0 +1,5 @@
+pub mod Bools
+pub mod Sums
+pub mod Sizes
+pub mod Lists
+pub mod Integers

@@ -1,0 +1,3 @@
+pub mod Sum
+pub mod Integer
+pub mod Bit

@@ -1,0 +1,1 @@
+// General definitions and laws: sums, tests, lists, whole numbers, bits. No code.
