@@ -1,4 +1,6 @@
-// The form of every check's answer, and of a refusal.
+// The form of every check's answer, and of a refusal; the refusals' numbers.
+pub mod refusals;
+
 ghost use mathlib.Core.Path.{_≡_};
 ghost use Rattle.answer_forms.specs.Answer.{refused};
 ghost use Rattle.answer_forms.specs.Checked.{checkOf, refusalOf};

@@ -11,7 +11,8 @@ use Rattle.game.specs.Tree.{Tree, ofArc}
 use Rattle.basics.proofs.Bools.{neither-second}
 use Rattle.answer_forms.specs.Answer.{Check, accepted, fault, _then_}
 use Rattle.answer_forms.proofs.Composed.{first-accepted, second-accepted, no-fault}
-use Rattle.answers.specs.Checks.{mostArcs, mostCost, arcCheck, arcsCheck, treeCheck, lengthCheck}
+use Rattle.limits.specs.Limits.{mostArcs, mostCost}
+use Rattle.answers.specs.Checks.{arcCheck, arcsCheck, treeCheck, lengthCheck}
 
 -- arcs from k on: each parent is below its arc, each cost within its limit
 pub record Arcs (k : ℕ) (parents costs : List ℕ) : Type 0 where

@@ -10,6 +10,7 @@ use borrow.Author.Tests.{eqb-true, ltb-true, ltb-false, lt-ltb, le-ltb}
 use lib.IntN.{ℤ, pos, negsuc}
 use lib.Signed.{_≤ℤ_, ≤ℤ-refl}
 use lib.Dec.{ltb, leb→le, le→leb}
+use Rattle.limits.specs.Limits.{mostArcs}
 use Rattle.game.specs.Network.{Network, memberCount, wholeCost, groupCost}
 use Rattle.game.specs.Tree.{Tree, network}
 use Rattle.basics.specs.Bit.{bit}
@@ -157,7 +158,7 @@ module _ (t : Tree) (shares : List ℤ) (ok : auditCheck t shares ≡ accepted) 
       (λ z. absurd (h .1 (sym (h .0) ∙ is-zero (difference n shares) z)))
       (λ z. answered ∙ ap value (off-total z ∙ ap wrongTotal (h .0)))
 
-  few : memberCount n ≤ 1023
+  few : memberCount n ≤ mostArcs
   few = members-bound t (tree-accepted t (first-accepted (treeCheck t) (proposalCheck (memberCount n) shares) ok))
 
   object-then : (amount members : ℕ) → auditAnswer t shares ≡ value (objection amount members) → ObjectionLaws t shares amount members

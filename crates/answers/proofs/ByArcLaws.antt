@@ -20,7 +20,8 @@ use Rattle.game.proofs.Gifts.{gift-even}
 use Rattle.game.proofs.EvenCore.{even-core}
 use Rattle.game.proofs.ByArc.{used-count, by-arc-length, by-arc-at}
 use Rattle.answer_forms.specs.Answer.{Check, accepted, written}
-use Rattle.answers.specs.Checks.{treeCheck, outputCheck, mostShare, outsideShare}
+use Rattle.answers.specs.Checks.{treeCheck, outputCheck, outsideShare}
+use Rattle.limits.specs.Limits.{mostShare}
 use Rattle.answers.specs.Members.{membersCheck}
 use Rattle.answers.specs.Audit.{auditCheck}
 use Rattle.answers.specs.ByArc.{byArcList}

@@ -5,13 +5,14 @@ use lib.ListN.{length}
 use Rattle.game.specs.Network.{wholeCost, memberCount}
 use Rattle.game.specs.Tree.{Tree, network, ofArc}
 use Rattle.basics.proofs.Sums.{sum-bound, count-le}
-use Rattle.answers.specs.Checks.{mostCost}
+use Rattle.limits.specs.Limits.{mostCost, mostArcs}
+use Rattle.limits.specs.Inner.{mostWhole}
 use Rattle.answers.proofs.Accepted.{Accepted}
 
 module _ (t : Tree) (ok : Accepted t) where
-  pub whole-bound : wholeCost (network t) ≤ 1023000000000
+  pub whole-bound : wholeCost (network t) ≤ mostWhole
   unfolding wholeCost
   whole-bound = omega (arith, sum-bound (length (t .parents)) mostCost {f = ofArc (t .costs)} (λ k i. ok .limited k), ok .few)
 
-  pub members-bound : memberCount (network t) ≤ 1023
+  pub members-bound : memberCount (network t) ≤ mostArcs
   members-bound = omega (arith, count-le (network t .arcs) (network t .member), ok .few)

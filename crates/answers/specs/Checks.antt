@@ -7,14 +7,8 @@ use lib.IntN.{ℤ, natAbs}
 use lib.Dec.{eqb, ltb, leb}
 use Rattle.game.specs.Tree.{Tree}
 use Rattle.basics.specs.Bit.{bit}
+use Rattle.limits.specs.Limits.{mostArcs, groupBits, mostCost, mostShare}
 use Rattle.answer_forms.specs.Answer.{Check, accepted, fault, _then_}
-
--- the most arcs, and the greatest cost of one
-abbrev pub mostArcs : ℕ
-mostArcs = 1023
-
-abbrev pub mostCost : ℕ
-mostCost = 1000000000
 
 -- at arc k: 3 where the parent is not below it, then 4 where the cost is above the limit
 abbrev pub arcCheck : ℕ → ℕ → ℕ → Check
@@ -40,7 +34,7 @@ bitsCheck words (suc f) j = fault (bit words j) 5 j then bitsCheck words f (j + 
 
 -- no bit of the sixteen words stands at or beyond the number of members
 abbrev pub groupCheck : ℕ → List ℕ → Check
-groupCheck members words = bitsCheck words (1024 - members) members
+groupCheck members words = bitsCheck words (groupBits - members) members
 
 -- 7 at the lowest entry that is outside its range; the first entry is that of member j
 unfoldable pub rangeCheck : {A : Type 0} → (A → Bool) → ℕ → List A → Check
@@ -50,10 +44,6 @@ rangeCheck outside j (x ∷ rest) = fault (outside x) 7 j then rangeCheck outsid
 -- a list with one entry a member: 6 where its length is not the number of members, then 7
 abbrev pub memberListCheck : {A : Type 0} → (A → Bool) → ℕ → List A → Check
 memberListCheck outside members l = fault (not (eqb (length l) members)) 6 0 then rangeCheck outside 0 l
-
--- the greatest amount that a share or a cap can have
-abbrev pub mostShare : ℕ
-mostShare = 2000000000000
 
 abbrev pub outsideShare : ℤ → Bool
 outsideShare x = ltb mostShare (natAbs x)

@@ -10,7 +10,8 @@ use Rattle.game.specs.Network.{Network, sumBelow, need, number, memberCount}
 use Rattle.game.specs.Tree.{Tree, network}
 use Rattle.game.specs.Level.{level}
 use Rattle.answer_forms.specs.Answer.{Check, accepted, refused, _then_}
-use Rattle.answers.specs.Checks.{treeCheck, mostShare, memberListCheck, outputCheck}
+use Rattle.answers.specs.Checks.{treeCheck, memberListCheck, outputCheck}
+use Rattle.limits.specs.Limits.{mostShare}
 
 -- the split's answer: the number of members, or a refusal with the shortfall, which is 0 except with 9
 pub data LevelAnswer : Type 0 where

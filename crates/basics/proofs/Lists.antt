@@ -38,6 +38,6 @@ module _ {A : Type 0} (f : ℕ → A) where
     list-is m l e h =
         ext-getD d l (list m f) (e ∙ sym (list-length m)) (λ i b. h i (omega arith) ∙ sym (list-at m i (omega arith)))
 
--- the front of an array of 1,023 zeros, lent as a list
-pub zeros-length : (m : ℕ) → m ≤ 1023 → length {A = ℕ} (take (m - 0) (replicate 1023 0)) ≡ m
-zeros-length m h = omega (arith, length-take {A = ℕ} (m - 0) (replicate 1023 0), length-replicate {A = ℕ} 1023 0)
+-- the front of an array of zeros, lent as a list
+pub zeros-length : (size m : ℕ) → m ≤ size → length {A = ℕ} (take (m - 0) (replicate size 0)) ≡ m
+zeros-length size m h = omega (arith, length-take {A = ℕ} (m - 0) (replicate size 0), length-replicate {A = ℕ} size 0)

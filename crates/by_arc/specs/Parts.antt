@@ -7,7 +7,7 @@ use Rattle.basics.specs.Sum.{pick, sum, list, size}
 use Rattle.game.specs.Network.{Network, atOrBelow, members}
 use Rattle.game.specs.Tree.{ofArc}
 use Rattle.game.specs.Core.{users}
-use Rattle.answers.specs.Checks.{mostCost}
+use Rattle.limits.specs.Limits.{mostCost}
 
 -- each of m arcs has a part for every user, and units left over
 pub record Parts (m : ℕ) (each more : List ℕ) : Type 0 where

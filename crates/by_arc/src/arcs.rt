@@ -1,6 +1,7 @@
 // The by-arc split of an accepted tree.
 use crate::divide::divide;
 use crate::shares::write_shares;
+use limits::MOST_ARCS;
 ghost use mathlib.Core.Path.{_≡_};
 ghost use mathlib.Core.List.{[]};
 ghost use lib.ListN.{length};
@@ -40,9 +41,9 @@ pub fn split_arcs(parents: &[u16], costs: &[u32], vertices: &[u16], shares: &mut
     ensures { λ _. ⌜ now (shares .exit) ≡ byArc (network (treeOf (now (parents .entry)) (now (costs .entry)))) ⌝ }
 {
     let m = parents.len();
-    let mut counts = [0u64; 1023];
-    let mut each = [0u64; 1023];
-    let mut more = [0u64; 1023];
+    let mut counts = [0u64; MOST_ARCS];
+    let mut each = [0u64; MOST_ARCS];
+    let mut more = [0u64; MOST_ARCS];
     split_in(
         parents,
         costs,

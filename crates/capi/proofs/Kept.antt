@@ -8,7 +8,8 @@ use lib.Dec.{eqb, ltb, leb}
 use Rattle.game.specs.Tree.{Tree}
 use Rattle.basics.specs.Bit.{bit}
 use Rattle.answer_forms.specs.Answer.{Check, accepted, refused, fault, _then_}
-use Rattle.answers.specs.Checks.{mostArcs, mostCost, arcCheck, arcsCheck, treeCheck, bitsCheck, rangeCheck, memberListCheck, outputCheck, outsideShare}
+use Rattle.limits.specs.Limits.{mostArcs, mostCost}
+use Rattle.answers.specs.Checks.{arcCheck, arcsCheck, treeCheck, bitsCheck, rangeCheck, memberListCheck, outputCheck, outsideShare}
 use Rattle.answers.specs.Level.{outsideCap}
 use Rattle.job_bytes.specs.Format.{arcOffset, memberOffset, version, closing0, closing1, jobArcs, jobMembers, jobCaps, jobProposals, fillerAt}
 use Rattle.job_form.specs.Form.{fewestBytes, mostBytes, longestNote, sizeCheck, marksCheck, layoutCheck, formCheck, fillersFrom, fillersCheck}

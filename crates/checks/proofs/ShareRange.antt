@@ -6,7 +6,8 @@ use native.Mathlib.Omega.{arith}
 use borrow.Author.Tests.{ltb-true, ltb-false, lt-ltb, le-ltb}
 use lib.IntN.{ℤ, pos, negsuc, negℤ}
 use lib.Signed.{ltZ}
-use Rattle.answers.specs.Checks.{mostShare, outsideShare}
+use Rattle.limits.specs.Limits.{mostShare}
+use Rattle.answers.specs.Checks.{outsideShare}
 
 pub low-outside : (z : ℤ) → ltZ z (negℤ (pos mostShare)) ≡ true → outsideShare z ≡ true
 low-outside (pos a) e = absurd (false≢true e)

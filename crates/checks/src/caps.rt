@@ -1,21 +1,20 @@
 // The check of the caps: 6, then 7 at the lowest cap above the limit.
 use answer_forms::Checked;
+use answer_forms::refusals;
 use answer_forms::refuse;
+use limits::MOST_SHARE;
 ghost use mathlib.Core.Path.{_≡_};
 ghost use Rattle.answer_forms.specs.Answer.{fault};
 ghost use Rattle.answers.specs.Checks.{rangeCheck};
 ghost use Rattle.answers.specs.Level.{outsideCap, capsCheck};
 ghost use Rattle.answer_forms.specs.Checked.{checkOf};
 
-// The greatest cap.
-const MOST_CAP: u64 = 2_000_000_000_000;
-
 // 7 at member j.
 fn check_cap(j: usize, cap: u64) -> Checked
     ensures { λ r. ⌜ checkOf r ≡ fault (outsideCap cap) 7 j ⌝ }
 {
-    if MOST_CAP < cap {
-        return refuse(7, j);
+    if MOST_SHARE < cap {
+        return refuse(refusals::LIST_RANGE, j);
     }
     Checked::Accepted
 }
@@ -39,7 +38,7 @@ pub fn check_caps(members: usize, caps: &[u64]) -> Checked
     ensures { λ r. ⌜ checkOf r ≡ capsCheck members (now (caps .entry)) ⌝ }
 {
     if caps.len() != members {
-        return refuse(6, 0);
+        return refuse(refusals::LIST_LENGTH, 0);
     }
     check_each(caps)
 }

@@ -1,5 +1,6 @@
 // The check of an output list.
 use answer_forms::Checked;
+use answer_forms::refusals;
 use answer_forms::refuse;
 ghost use mathlib.Core.Path.{_≡_};
 ghost use Rattle.answers.specs.Checks.{lengthCheck};
@@ -12,6 +13,6 @@ pub fn check_output(length: usize, wanted: usize) -> Checked
     if length == wanted {
         Checked::Accepted
     } else {
-        refuse(8, 0)
+        refuse(refusals::OUTPUT_LENGTH, 0)
     }
 }

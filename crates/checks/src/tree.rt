@@ -1,26 +1,24 @@
 // The tree check: 1, 2, then 3 and 4 arc by arc.
 use answer_forms::Checked;
+use answer_forms::refusals;
 use answer_forms::refuse;
+use limits::MOST_ARCS;
+use limits::MOST_COST;
 ghost use mathlib.Core.Path.{_≡_};
 ghost use lib.ListN.{length};
 ghost use Rattle.game.specs.Tree.{treeOf};
 ghost use Rattle.answers.specs.Checks.{treeCheck, arcsCheck, arcCheck};
 ghost use Rattle.answer_forms.specs.Checked.{checkOf};
 
-// The most arcs of a tree, and the greatest cost of one.
-const MOST_ARCS: usize = 1023;
-
-const MOST_COST: u32 = 1_000_000_000;
-
 // 3 and 4 at arc k.
 fn check_arc(k: usize, parent: u16, cost: u32) -> Checked
     ensures { λ r. ⌜ checkOf r ≡ arcCheck k parent cost ⌝ }
 {
     if k <= parent as usize {
-        return refuse(3, k);
+        return refuse(refusals::PARENT, k);
     }
     if MOST_COST < cost {
-        return refuse(4, k);
+        return refuse(refusals::COST, k);
     }
     Checked::Accepted
 }
@@ -45,13 +43,13 @@ pub fn check_tree(parents: &[u16], costs: &[u32]) -> Checked
     ensures { λ r. ⌜ checkOf r ≡ treeCheck (treeOf (now (parents .entry)) (now (costs .entry))) ⌝ }
 {
     if parents.len() == 0 {
-        return refuse(1, 0);
+        return refuse(refusals::ARC_COUNT, 0);
     }
     if MOST_ARCS < parents.len() {
-        return refuse(1, 0);
+        return refuse(refusals::ARC_COUNT, 0);
     }
     if parents.len() != costs.len() {
-        return refuse(2, 0);
+        return refuse(refusals::TREE_LENGTHS, 0);
     }
     check_arcs(parents, costs)
 }

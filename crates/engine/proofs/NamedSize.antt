@@ -5,6 +5,7 @@ use mathlib.Core.List.{List}
 use native.Mathlib.Nat.{add-zero}
 use native.Mathlib.Omega.{arith}
 use lib.IntN.{ℤ}
+use Rattle.limits.specs.Limits.{mostArcs}
 use Rattle.game.specs.Network.{Network, memberCount}
 use Rattle.basics.specs.Bit.{bit}
 use Rattle.basics.specs.Sum.{size}
@@ -14,7 +15,7 @@ use Rattle.basics.proofs.Sizes.{size-same, size-split, size-none}
 use Rattle.game.proofs.Encoding.{bit-of-words}
 use Rattle.game.proofs.Search.{named-ends}
 
-pub named-size : (n : Network) (shares : List ℤ) → memberCount n ≤ 1023
+pub named-size : (n : Network) (shares : List ℤ) → memberCount n ≤ mostArcs
     → size 1024 (bit (wordsOf (isIn (named n shares)))) ≡ size (memberCount n) (isIn (named n shares))
 named-size n shares few =
     size-same 1024 (bit (wordsOf (isIn (named n shares)))) (isIn (named n shares)) (λ j h. bit-of-words (isIn (named n shares)) j h)

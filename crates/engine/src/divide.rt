@@ -1,6 +1,7 @@
 // The by-arc split.
 use crate::members::MemberCount;
 use answer_forms::Checked;
+use limits::MOST_ARCS;
 ghost use mathlib.Core.Path.{_≡_};
 ghost use lib.ListN.{length};
 ghost use Rattle.game.specs.Network.{memberCount};
@@ -36,7 +37,7 @@ pub fn split_by_arc(parents: &[u16], costs: &[u32], out: &mut [u64]) -> MemberCo
     let Checked::Accepted = output else {
         return MemberCount::Refused(answer_forms::refusal_of(output));
     };
-    let mut vertices = [0u16; 1023];
+    let mut vertices = [0u16; MOST_ARCS];
     divide(parents, costs, &mut vertices[0..members], out);
     MemberCount::Members(members)
 }

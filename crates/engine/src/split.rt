@@ -2,6 +2,7 @@
 use answer_forms::Checked;
 use answer_forms::Refusal;
 use level::CapsFound;
+use limits::MOST_ARCS;
 ghost use mathlib.Core.Path.{_≡_};
 ghost use lib.ListN.{length};
 ghost use Rattle.game.specs.Network.{memberCount};
@@ -91,6 +92,6 @@ pub fn split_level(parents: &[u16], costs: &[u32], caps: &[u64], out: &mut [u64]
     let Checked::Accepted = output else {
         return refused(answer_forms::refusal_of(output));
     };
-    let mut vertices = [0u16; 1023];
+    let mut vertices = [0u16; MOST_ARCS];
     split_accepted(parents, costs, caps, &mut vertices[0..members], out)
 }

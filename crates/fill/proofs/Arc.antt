@@ -9,15 +9,15 @@ use lib.Seq.{ext-getD}
 use Rattle.game.specs.Network.{Network, memberCount}
 use Rattle.game.specs.Core.{users}
 use Rattle.game.specs.Level.{units}
-use Rattle.game.specs.Raise.{fill}
+use Rattle.game.proofs.Rise.{fill}
 use Rattle.game.proofs.Raise.{Raised, fill-step, fill-next-level, units-raise}
-use Rattle.answers.specs.Checks.{mostShare}
+use Rattle.limits.specs.Limits.{mostShare, mostArcs}
 use Rattle.users.specs.Users.{Lists}
 use Rattle.fill.specs.Fill.{mostKey, Numbers, taken, filled, Greatest, raised, GivenOut}
 use Rattle.fill.proofs.Listed.{list-length, number-below, listed}
 use Rattle.fill.proofs.Turns.{raised-length, raised-entry}
 
-module _ (n : Network) (k : ℕ) (us : List ℕ) (lists : Lists n k us) (caps shares : List ℕ) (sized : length caps ≡ memberCount n) (few : memberCount n ≤ 1023)
+module _ (n : Network) (k : ℕ) (us : List ℕ) (lists : Lists n k us) (caps shares : List ℕ) (sized : length caps ≡ memberCount n) (few : memberCount n ≤ mostArcs)
     (same : length shares ≡ length caps) where
   pub lists-numbers : Numbers us caps shares
   lists-numbers = record { few = omega (arith, list-length n k us lists); numbered = λ i h. omega (arith, number-below n k us lists i h); same = same }
@@ -28,15 +28,15 @@ module _ (n : Network) (k : ℕ) (us : List ℕ) (lists : Lists n k us) (caps sh
   -- the next key takes at most one unit more
   one-key : (key : ℕ) → filled us caps shares (key + 1) ≤ filled us caps shares key + 1
   one-key key =
-      elim (decLt (key % 1024) 1023) [
+      elim (decLt (key % 1024) mostArcs) [
         | yes h ↦
             let level : (key + 1) / 1024 ≡ key / 1024 = omega arith in
-            let mark : (key + 1) % 1024 ≡ suc (key % 1024) = omega arith in
-            omega (arith, at-key key, at-key (key + 1), ap₂ (fill n caps k shares) level mark, fill-step n caps k shares (key / 1024) (key % 1024))
+            let bound : (key + 1) % 1024 ≡ suc (key % 1024) = omega arith in
+            omega (arith, at-key key, at-key (key + 1), ap₂ (fill n caps k shares) level bound, fill-step n caps k shares (key / 1024) (key % 1024))
         | no h ↦
             let level : (key + 1) / 1024 ≡ suc (key / 1024) = omega arith in
-            let mark : (key + 1) % 1024 ≡ 0 = omega arith in
-            omega (arith, at-key key, at-key (key + 1), ap₂ (fill n caps k shares) level mark, fill-next-level n caps k shares (key / 1024) (key % 1024) (omega arith))
+            let bound : (key + 1) % 1024 ≡ 0 = omega arith in
+            omega (arith, at-key key, at-key (key + 1), ap₂ (fill n caps k shares) level bound, fill-next-level n caps k shares (key / 1024) (key % 1024) (omega arith))
       ]
 
   module _ (amount key : ℕ) (room : amount ≤ fill n caps k shares mostShare 0) (greatest : Greatest us caps shares amount key) where
@@ -46,8 +46,8 @@ module _ (n : Network) (k : ℕ) (us : List ℕ) (lists : Lists n k us) (caps sh
           | yes h ↦ omega (arith, at-key key, greatest .enough, greatest .no-greater h, one-key key)
           | no h ↦
               let level : key / 1024 ≡ mostShare = omega (arith, greatest .within) in
-              let mark : key % 1024 ≡ 0 = omega (arith, greatest .within) in
-              omega (arith, at-key key, greatest .enough, room, ap₂ (fill n caps k shares) level mark)
+              let bound : key % 1024 ≡ 0 = omega (arith, greatest .within) in
+              omega (arith, at-key key, greatest .enough, room, ap₂ (fill n caps k shares) level bound)
         ]
 
     by-unit : Raised n caps k shares (key / 1024) (key % 1024) (units n caps k amount shares)

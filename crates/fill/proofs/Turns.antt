@@ -11,7 +11,7 @@ use lib.ListN.{length, getD, drop, drop-of-length-le, length-set}
 use lib.Seq.{drop-cons, getD-set-same, getD-set-other}
 use lib.Dec.{eqb}
 use Rattle.basics.specs.Sum.{pick}
-use Rattle.game.specs.Raise.{took}
+use Rattle.game.proofs.Rise.{took}
 use Rattle.basics.proofs.Bools.{pick-yes, pick-no, pick-le, pick-pos}
 use Rattle.game.proofs.Raise.{smaller-is}
 use Rattle.users.specs.Users.{total}

@@ -7,15 +7,15 @@ use lib.Dec.{ltb}
 use Rattle.basics.specs.Sum.{pick}
 use Rattle.game.specs.Network.{Network, memberCount}
 use Rattle.game.specs.Level.{units}
-use Rattle.game.specs.Raise.{part, fill}
-use Rattle.answers.specs.Checks.{mostShare}
+use Rattle.game.proofs.Rise.{part, fill}
+use Rattle.limits.specs.Limits.{mostShare, mostArcs}
 use Rattle.users.specs.Users.{total, Lists}
 
--- a key is a level and a mark: a user with a number below the mark goes to one above the level, another to the level
+-- a key is a level and a bound: a user with a number below the bound goes to one above the level, another to the level
 abbrev pub aim : ℕ → ℕ → ℕ
 aim key u = key / 1024 + pick (ltb u (key % 1024)) 1
 
--- the greatest level, and mark 0
+-- the greatest level, and bound 0
 abbrev pub mostKey : ℕ
 mostKey = mostShare * 1024
 
@@ -29,7 +29,7 @@ filled us caps shares key = total (taken caps shares key) us
 
 -- a list of member numbers beside a cap and a share for each member
 pub record Numbers (us caps shares : List ℕ) : Type 0 where
-  pub few : length us ≤ 1023
+  pub few : length us ≤ mostArcs
   pub numbered : (i : ℕ) → i < length us → getD us i 0 < length caps
   pub same : length shares ≡ length caps
 
@@ -49,5 +49,5 @@ raised caps key (u ∷ us) shares = raised caps key us (raiseOne caps key shares
 
 -- the shares after the amount is given out by the rule, on every network and arc whose users the list has
 pub record GivenOut (us caps : List ℕ) (amount : ℕ) (before after : List ℕ) : Type 0 where
-  pub is : (n : Network) (k : ℕ) → Lists n k us → length caps ≡ memberCount n → memberCount n ≤ 1023 → amount ≤ fill n caps k before mostShare 0
+  pub is : (n : Network) (k : ℕ) → Lists n k us → length caps ≡ memberCount n → memberCount n ≤ mostArcs → amount ≤ fill n caps k before mostShare 0
       → after ≡ units n caps k amount before

@@ -1,13 +1,12 @@
 // The greatest key that an amount is enough for, by bisection.
+use crate::KEYS_PER_LEVEL;
 use crate::part_of;
+use limits::MOST_SHARE;
 ghost use mathlib.Core.Path.{_≡_};
 ghost use Prim.Native.Nat.{_≤_};
 ghost use mathlib.Core.Bool.{cond};
 ghost use lib.Dec.{ltb};
 ghost use Rattle.fill.specs.Fill.{mostKey, filled, Numbers, Greatest};
-
-// The greatest cap, which is the greatest level.
-const MOST_LEVEL: u64 = 2_000_000_000_000;
 
 // What the users take together at a key.
 fn fill_to(users: &[u16], caps: &[u64], shares: &[u64], key: u64) -> u64
@@ -32,13 +31,14 @@ fn by_fill(taken: u64, amount: u64, over: u64, within: u64) -> u64
     if amount < taken { over } else { within }
 }
 
-// The greatest key up to the limit that the amount is enough for. It is enough for `low`, and not for `high` unless that is above the limit.
+// The greatest key up to the limit that the amount is enough for. The greatest level is the greatest cap. The amount
+// is enough for `low`, and not for `high` unless that is above the limit.
 pub fn find_key(users: &[u16], caps: &[u64], shares: &[u64], amount: u64) -> u64
     requires { ⌜ Numbers (now users) (now caps) (now shares) ⌝ }
     ensures { λ r. ⌜ Greatest (now (users .entry)) (now (caps .entry)) (now (shares .entry)) amount r ⌝ }
 {
     let mut low: u64 = 0;
-    let mut high: u64 = MOST_LEVEL * 1024 + 1;
+    let mut high: u64 = MOST_SHARE * KEYS_PER_LEVEL + 1;
     while 1 < high - low {
         let middle = low + (high - low) / 2;
         let taken = fill_to(users, caps, shares, middle);

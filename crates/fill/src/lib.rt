@@ -1,16 +1,19 @@
-// One arc's amount given out among its users. A key stands for a level and a mark, level * 1024 + mark: it raises the users to the level, those with a number below the mark to one above it.
+// One arc's amount given out among its users. A key stands for a level and a bound on member numbers, level * 1024 + bound: it raises the
+// users to the level, those with a number below the bound to one above it.
 mod key;
 mod raise;
 
 ghost use mathlib.Core.Path.{_≡_};
-ghost use Rattle.game.specs.Raise.{took};
+ghost use Rattle.game.proofs.Rise.{took};
 ghost use Rattle.fill.specs.Fill.{aim, Numbers, GivenOut};
+
+const KEYS_PER_LEVEL: u64 = 1024;
 
 // The level that a key raises a user to.
 fn aim_of(key: u64, user: u64) -> u64
     ensures { λ r. ⌜ r ≡ aim key user ⌝ }
 {
-    key / 1024 + numbers::one_if_below(user, key % 1024)
+    key / KEYS_PER_LEVEL + numbers::one_if_below(user, key % KEYS_PER_LEVEL)
 }
 
 // What a user takes at a key.

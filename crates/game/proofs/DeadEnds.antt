@@ -7,7 +7,8 @@ use lib.ListN.{length}
 use native.Mathlib.Omega.{arith}
 use borrow.Author.Tests.{eqb-true}
 use lib.Dec.{eqb}
-use Rattle.game.specs.Network.{Network, used, everyone, counted, atCounted, wholeCost, groupCost}
+use Rattle.game.specs.Network.{Network, used, everyone, wholeCost, groupCost}
+use Rattle.game.proofs.Counted.{counted, atCounted}
 use Rattle.game.specs.Tree.{Tree, ofArc, hasChild, network}
 use Rattle.basics.proofs.Bools.{both, and-both, pick-yes, pick-no}
 use Rattle.basics.proofs.Sums.{In, Some, some-is, sum-cong}

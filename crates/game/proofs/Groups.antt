@@ -7,7 +7,8 @@ use native.Mathlib.Omega.{arith}
 use borrow.Author.Tests.{eqb-true, eq-eqb}
 use lib.Dec.{eqb}
 use Rattle.basics.specs.Sum.{pick, some}
-use Rattle.game.specs.Network.{Network, atOrBelow, user, used, groupCost, everyone, wholeCost, atCounted}
+use Rattle.game.specs.Network.{Network, atOrBelow, user, used, groupCost, everyone, wholeCost}
+use Rattle.game.proofs.Counted.{atCounted}
 use Rattle.basics.proofs.Bools.{both, clash, not-so, and-both, and-first, and-second, or-first, or-second, or-cases, same-test, pick-no, pick-mono, pick-two}
 use Rattle.basics.proofs.Sums.{In, Some, some-of, some-is, sum-mono, sum-zero, sum-add}
 use Rattle.game.proofs.Below.{Rooted, from-source, below-self, below-parent, below-trans, below-cases, below-source}

@@ -10,7 +10,7 @@ use lib.Dec.{ltb}
 use Rattle.basics.specs.Sum.{pick, smaller}
 use Rattle.game.specs.Network.{Network, atOrBelow, number, sumBelow}
 use Rattle.game.specs.Core.{users}
-use Rattle.game.specs.Raise.{rise, fill}
+use Rattle.game.proofs.Rise.{rise, fill}
 use Rattle.basics.proofs.Bools.{both, pick-yes, pick-no, pick-zero}
 use Rattle.basics.proofs.Sums.{In, sum-mono, sum-add}
 use Rattle.game.proofs.Below.{Rooted}

@@ -1,3 +1,4 @@
+pub mod Counted
 pub mod ArcEntries
 pub mod Below
 pub mod SumBounds
@@ -19,6 +20,7 @@ mod Smallest
 mod Descent
 pub mod LevelRule
 pub mod LevelList
+pub mod Rise
 pub mod Raise
 pub mod LevelRoom
 mod Meets

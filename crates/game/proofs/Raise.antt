@@ -15,7 +15,7 @@ use Rattle.basics.specs.Sum.{pick, smaller}
 use Rattle.game.specs.Network.{Network, memberCount}
 use Rattle.game.specs.Core.{users}
 use Rattle.game.specs.Level.{mayTake, firstLeast, unit, units}
-use Rattle.game.specs.Raise.{rise, fill}
+use Rattle.game.proofs.Rise.{rise, fill}
 use Rattle.basics.proofs.Bools.{both, and-both, and-first, and-second, pick-yes, pick-no}
 use Rattle.basics.proofs.Sums.{sum-cong, sum-add, sum-zero, sum-at}
 use Rattle.game.proofs.Smallest.{is-first}

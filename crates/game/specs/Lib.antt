@@ -5,6 +5,5 @@ pub mod Proposal
 pub mod Search
 pub mod Core
 pub mod Level
-pub mod Raise
 pub mod ByArc
 pub mod Shapley

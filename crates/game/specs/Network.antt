@@ -51,14 +51,6 @@ need n = sumBelow n (n .cost)
 unfoldable pub wholeCost : Network → ℕ
 wholeCost n = sum (n .arcs) (n .cost)
 
--- an arc's counted cost: its cost where it has a user, else 0
-abbrev pub counted : Network → ℕ → ℕ
-counted n k = pick (used n everyone k) (n .cost k)
-
--- the network at its counted costs
-abbrev pub atCounted : Network → Network
-atCounted n = record { arcs = n .arcs; parent = n .parent; member = n .member; cost = counted n }
-
 -- the number of members
 abbrev pub memberCount : Network → ℕ
 memberCount n = count (n .arcs) (n .member)

@@ -6,7 +6,8 @@ use mathlib.Core.List.{List}
 use native.Mathlib.Omega.{arith}
 use lib.Dec.{eqb}
 use Rattle.answer_forms.specs.Answer.{accepted, fault, _then_}
-use Rattle.answers.specs.Checks.{mostArcs, treeCheck, proposalCheck}
+use Rattle.limits.specs.Limits.{mostArcs}
+use Rattle.answers.specs.Checks.{treeCheck, proposalCheck}
 use Rattle.answers.specs.Level.{capsCheck}
 use Rattle.answer_forms.proofs.Composed.{first-accepted, second-accepted, no-fault}
 use Rattle.answers.proofs.Accepted.{tree-accepted}

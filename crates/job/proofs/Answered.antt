@@ -10,10 +10,11 @@ use lib.IntN.{ℤ}
 use lib.Dec.{ltb}
 use Rattle.basics.proofs.Bools.{neither-first, neither-second}
 use Rattle.answer_forms.specs.Answer.{Answer, value, refusal, accepted, refused}
-use Rattle.answers.specs.Checks.{mostArcs}
+use Rattle.limits.specs.Limits.{mostArcs}
 use Rattle.answer_forms.proofs.Composed.{no-fault}
 use Rattle.job_bytes.specs.Numbers.{entries}
-use Rattle.job_bytes.specs.Format.{parentAt, costAt, capAt, proposalAt, TrailerOf}
+use Rattle.job_bytes.specs.Format.{parentAt, costAt, capAt, proposalAt}
+use Rattle.job_bytes.specs.Inner.{TrailerOf}
 use Rattle.job_form.proofs.FormAccepted.{form-layout}
 use Rattle.job.specs.JobCheck.{jobCheck}
 use Rattle.job.specs.Reader.{Lent, lent, roomCheck, readCheck, JobValue, jobAnswer, jobLists}

@@ -14,7 +14,7 @@ use Rattle.engine.specs.declared.members.MemberCount.{MemberCount}
 use Rattle.engine.specs.declared.members.MemberCount.the-variants.{Members, Refused as NoMembers}
 use Rattle.job_bytes.specs.Numbers.{entries}
 use Rattle.job.specs.JobCheck.{sharesOf}
-use Rattle.job.specs.Reader.{treeFound}
+use Rattle.job.specs.Inner.{treeFound}
 
 found-by : (check : Check) (count : MemberCount) (n : ℕ) → memberCountOf count ≡ answer check n → treeFound count ≡ check
 found-by accepted (Members m) n e = refl

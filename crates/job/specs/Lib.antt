@@ -2,3 +2,4 @@ pub mod JobCheck
 pub mod Reader
 pub mod Laws
 pub mod Table
+pub mod Inner

@@ -5,10 +5,8 @@ use mathlib.Core.List.{List, _++_}
 use lib.ListN.{length, drop}
 use lib.IntN.{ℤ}
 use lib.Dec.{ltb}
-use Rattle.answer_forms.specs.Answer.{Check, accepted, refused, Answer, value, refusal, fault, _then_, answer, written}
-use Rattle.answers.specs.Checks.{mostArcs}
-use Rattle.engine.specs.declared.members.MemberCount.{MemberCount}
-use Rattle.engine.specs.declared.members.MemberCount.the-variants.{Members, Refused as NoMembers}
+use Rattle.answer_forms.specs.Answer.{Check, Answer, value, refusal, fault, _then_, answer, written}
+use Rattle.limits.specs.Limits.{mostArcs}
 use Rattle.job_bytes.specs.Format.{arcOffset, jobArcs, jobMembers, jobParents, jobCosts, jobCaps, jobProposals}
 use Rattle.job.specs.JobCheck.{jobCheck}
 use Rattle.job.specs.declared.JobRead.{JobRead}
@@ -59,8 +57,3 @@ jobLists bytes l =
 abbrev pub jobReadOf : JobRead → Answer JobValue
 jobReadOf (Read arcs members note) = value (record { arcs = arcs; members = members; note = note })
 jobReadOf (Refused r) = refusal (r .number) (r .place)
-
--- what the tree's check found where the members were counted
-abbrev pub treeFound : MemberCount → Check
-treeFound (Members n) = accepted
-treeFound (NoMembers r) = refused (r .number) (r .place)

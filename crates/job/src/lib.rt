@@ -3,6 +3,8 @@ mod values;
 
 use answer_forms::Checked;
 use answer_forms::Refusal;
+use answer_forms::refusals;
+use limits::MOST_ARCS;
 ghost use mathlib.Core.Path.{_≡_};
 ghost use Rattle.job.specs.JobCheck.{jobCheck};
 ghost use Rattle.job.specs.Reader.{lent, roomCheck, jobAnswer, jobLists, jobReadOf};
@@ -19,23 +21,22 @@ pub enum JobRead {
 }
 
 // The most arcs, and so the most members, of a tree.
-const MOST_ARCS: usize = 1023;
 
 // 10: each list has room for the largest tree.
 fn check_room(parents: usize, costs: usize, caps: usize, proposals: usize) -> Checked
     ensures { λ r. ⌜ checkOf r ≡ roomCheck parents costs caps proposals ⌝ }
 {
     if parents < MOST_ARCS {
-        return answer_forms::refuse(10, 0);
+        return answer_forms::refuse(refusals::JOB_ROOM, 0);
     }
     if costs < MOST_ARCS {
-        return answer_forms::refuse(10, 0);
+        return answer_forms::refuse(refusals::JOB_ROOM, 0);
     }
     if caps < MOST_ARCS {
-        return answer_forms::refuse(10, 0);
+        return answer_forms::refuse(refusals::JOB_ROOM, 0);
     }
     if proposals < MOST_ARCS {
-        return answer_forms::refuse(10, 0);
+        return answer_forms::refuse(refusals::JOB_ROOM, 0);
     }
     Checked::Accepted
 }

@@ -1,5 +1,6 @@
 // The values of a job: the engine's checks on what the rows hold.
 use answer_forms::Checked;
+use answer_forms::refusals;
 use answer_forms::refuse;
 use engine::MemberCount;
 ghost use mathlib.Core.Path.{_≡_};
@@ -14,9 +15,9 @@ ghost use Rattle.answer_forms.specs.Checked.{checkOf};
 ghost use Rattle.engine.specs.Outcomes.{memberCountOf};
 ghost use Rattle.job_bytes.specs.Numbers.{entries};
 ghost use Rattle.job_bytes.specs.Format.{parentAt, costAt, capAt, proposalAt};
-ghost use Rattle.job_form.specs.Form.{Layout};
+ghost use Rattle.job_form.specs.Inner.{Layout};
 ghost use Rattle.job.specs.JobCheck.{sharesOf, valuesCheck};
-ghost use Rattle.job.specs.Reader.{treeFound};
+ghost use Rattle.job.specs.Inner.{treeFound};
 
 // The most arc rows, and the most member rows, that a job has room for.
 const MOST_ARC_ROWS: usize = 3100;
@@ -53,7 +54,7 @@ fn check_count(rows: usize, members: usize) -> Checked
     if rows == members {
         Checked::Accepted
     } else {
-        refuse(15, 0)
+        refuse(refusals::JOB_MEMBERS, 0)
     }
 }
 

@@ -76,12 +76,3 @@ pub record Alike (a b : List ℕ) : Type 0 where
   pub costs : jobCosts a ≡ jobCosts b
   pub caps : jobCaps a ≡ jobCaps b
   pub proposals : jobProposals a ≡ jobProposals b
-
--- what the trailer says, within the widths of its fields
-pub record TrailerOf (bytes : List ℕ) (arc-offset member-offset arcs members : ℕ) : Type 0 where
-  pub arc-offset-is : arc-offset ≡ arcOffset bytes
-  pub member-offset-is : member-offset ≡ memberOffset bytes
-  pub arcs-is : arcs ≡ jobArcs bytes
-  pub members-is : members ≡ jobMembers bytes
-  pub offsets-small : arc-offset + member-offset < 2 ^ 33
-  pub counts-small : arcs + members < 2 ^ 17

@@ -2,7 +2,7 @@
 use crate::number::number_at;
 ghost use Prim.Native.Nat.{_≤_};
 ghost use lib.ListN.{length};
-ghost use Rattle.job_bytes.specs.Format.{TrailerOf};
+ghost use Rattle.job_bytes.specs.Inner.{TrailerOf};
 
 pub struct Trailer {
     pub arc_offset: usize,

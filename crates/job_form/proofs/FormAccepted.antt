@@ -10,7 +10,8 @@ use Rattle.basics.proofs.Bools.{neither-first, neither-second}
 use Rattle.answer_forms.specs.Answer.{accepted, _then_}
 use Rattle.answer_forms.proofs.Composed.{first-accepted, second-accepted, no-fault}
 use Rattle.job_bytes.specs.Format.{arcOffset, memberOffset, jobArcs, jobMembers, version, closing0, closing1}
-use Rattle.job_form.specs.Form.{Layout, fewestBytes, mostBytes, longestNote, sizeCheck, marksCheck, layoutCheck, formCheck}
+use Rattle.job_form.specs.Inner.{Layout}
+use Rattle.job_form.specs.Form.{fewestBytes, mostBytes, longestNote, sizeCheck, marksCheck, layoutCheck, formCheck}
 
 pub record Sized (size : ℕ) : Type 0 where
   pub long : fewestBytes ≤ size

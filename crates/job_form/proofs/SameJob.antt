@@ -15,7 +15,8 @@ use Rattle.job_bytes.specs.Numbers.{littleEndian, Bytes, entries}
 use Rattle.job_bytes.specs.Format.{trailerAt, arcOffset, memberOffset, jobArcs, jobMembers, version, fillerAt, parentAt, costAt, capAt, proposalAt, jobNote, Alike}
 use Rattle.job_bytes.proofs.Entries.{length-entries}
 use Rattle.job_bytes.proofs.Determined.{Same, same-number, same-arcs, same-members, same-entries}
-use Rattle.job_form.specs.Form.{Layout, formCheck, fillersFrom, fillersCheck}
+use Rattle.job_form.specs.Inner.{Layout}
+use Rattle.job_form.specs.Form.{formCheck, fillersFrom, fillersCheck}
 use Rattle.job_form.proofs.FormAccepted.{alike, form-marks, form-layout}
 
 -- accepted fillers are zero

@@ -38,14 +38,6 @@ layoutCheck bytes =
 unfoldable pub formCheck : List ℕ → Check
 formCheck bytes = sizeCheck (length bytes) then marksCheck bytes then layoutCheck bytes
 
--- what 11 and 13 ask for: note, rows and trailer meet and end exactly
-pub record Layout (bytes : List ℕ) : Type 0 where
-  pub long : fewestBytes ≤ length bytes
-  pub short : length bytes ≤ mostBytes
-  pub note-short : arcOffset bytes ≤ longestNote
-  pub arcs-end : memberOffset bytes ≡ arcOffset bytes + 8 * jobArcs bytes
-  pub members-end : memberOffset bytes + 16 * jobMembers bytes + 16 ≡ length bytes
-
 -- 14: at the first arc whose filler is not zero, from row i on with this many rows left
 unfoldable pub fillersFrom : List ℕ → ℕ → ℕ → ℕ → Check
 fillersFrom bytes offset i zero = accepted

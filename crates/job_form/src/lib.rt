@@ -1,5 +1,6 @@
 // The form of a job: its size, its marks, its layout, and its fillers.
 use answer_forms::Checked;
+use answer_forms::refusals;
 use answer_forms::refuse;
 use job_bytes::number_at;
 ghost use mathlib.Core.Path.{_≡_};
@@ -9,7 +10,8 @@ ghost use lib.ListN.{length};
 ghost use lib.Dec.{eqb};
 ghost use Rattle.answer_forms.specs.Answer.{fault};
 ghost use Rattle.answer_forms.specs.Checked.{checkOf};
-ghost use Rattle.job_form.specs.Form.{Layout, sizeCheck, marksCheck, layoutCheck, formCheck, fillersFrom, fillersCheck};
+ghost use Rattle.job_form.specs.Inner.{Layout};
+ghost use Rattle.job_form.specs.Form.{sizeCheck, marksCheck, layoutCheck, formCheck, fillersFrom, fillersCheck};
 
 const FEWEST_BYTES: usize = 16;
 
@@ -22,10 +24,10 @@ fn check_size(size: usize) -> Checked
     ensures { λ r. ⌜ checkOf r ≡ sizeCheck size ⌝ }
 {
     if size < FEWEST_BYTES {
-        return refuse(11, 0);
+        return refuse(refusals::JOB_SIZE, 0);
     }
     if MOST_BYTES < size {
-        return refuse(11, 0);
+        return refuse(refusals::JOB_SIZE, 0);
     }
     Checked::Accepted
 }
@@ -37,13 +39,13 @@ fn check_marks(bytes: &[u8]) -> Checked
 {
     let at = bytes.len() - 16;
     if number_at(bytes, at + 12, 2) != 1 {
-        return refuse(12, 0);
+        return refuse(refusals::JOB_SIGNATURE, 0);
     }
     if bytes[at + 14] != 0x54 {
-        return refuse(12, 0);
+        return refuse(refusals::JOB_SIGNATURE, 0);
     }
     if bytes[at + 15] != 0x4A {
-        return refuse(12, 0);
+        return refuse(refusals::JOB_SIGNATURE, 0);
     }
     Checked::Accepted
 }
@@ -55,13 +57,13 @@ fn check_layout(bytes: &[u8]) -> Checked
 {
     let t = job_bytes::read_trailer(bytes);
     if LONGEST_NOTE < t.arc_offset {
-        return refuse(13, 0);
+        return refuse(refusals::JOB_LAYOUT, 0);
     }
     if t.member_offset != t.arc_offset + 8 * t.arcs {
-        return refuse(13, 0);
+        return refuse(refusals::JOB_LAYOUT, 0);
     }
     if t.member_offset + 16 * t.members + 16 != bytes.len() {
-        return refuse(13, 0);
+        return refuse(refusals::JOB_LAYOUT, 0);
     }
     Checked::Accepted
 }
@@ -87,7 +89,7 @@ fn check_filler(filler: u64, arc: usize) -> Checked
     if filler == 0 {
         Checked::Accepted
     } else {
-        refuse(14, arc)
+        refuse(refusals::JOB_FILLER, arc)
     }
 }
 

@@ -5,7 +5,7 @@ use mathlib.Core.List.{List}
 use borrow.Author.Tests.{ltb-false}
 use lib.ListN.{getD}
 use Rattle.answer_forms.specs.Answer.{accepted}
-use Rattle.answers.specs.Checks.{mostShare}
+use Rattle.limits.specs.Limits.{mostShare}
 use Rattle.tree.specs.Passes.{Capped}
 use Rattle.answers.specs.Level.{outsideCap, capsCheck}
 use Rattle.checks.proofs.Range.{list-accepted}

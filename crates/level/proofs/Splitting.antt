@@ -7,12 +7,12 @@ use lib.ListN.{length, getD, replicate}
 use Rattle.game.specs.Network.{memberCount, sumBelow}
 use Rattle.game.specs.Tree.{Tree, treeOf, network, ofArc}
 use Rattle.game.specs.Level.{unit, units, arcsDown, level}
-use Rattle.game.specs.Raise.{fill}
+use Rattle.game.proofs.Rise.{fill}
 use Rattle.basics.proofs.Sums.{In}
 use Rattle.game.proofs.LevelRule.{lower}
 use Rattle.game.proofs.LevelList.{view, Stands, next-arc, stands-start}
 use Rattle.game.proofs.LevelRoom.{enough-left}
-use Rattle.answers.specs.Checks.{mostShare}
+use Rattle.limits.specs.Limits.{mostShare, mostArcs}
 use Rattle.tree.specs.Passes.{Capped}
 use Rattle.answers.specs.Level.{shortArc}
 use Rattle.answers.proofs.Accepted.{Accepted}
@@ -28,7 +28,7 @@ pub record Ready (parents costs caps starts counts order : List ℕ) : Type 0 wh
   pub laid : LaidOut (network (treeOf parents [])) starts counts order
 
 module _ {parents costs caps starts counts order : List ℕ} (ready : Ready parents costs caps starts counts order) where
-  pub few : memberCount (network (treeOf parents [])) ≤ 1023
+  pub few : memberCount (network (treeOf parents [])) ≤ mostArcs
   few = members-bound (treeOf parents costs) (ready .accepted)
 
 -- costs do not decide who takes a unit

@@ -1,4 +1,5 @@
 // The arcs from the last down to the first, each given out among its users.
+use limits::MOST_ARCS;
 ghost use mathlib.Core.Path.{_≡_};
 ghost use mathlib.Core.List.{[]};
 ghost use lib.ListN.{length};
@@ -80,9 +81,9 @@ pub fn split_arcs(
 {
     let m = parents.len();
     let n = vertices.len();
-    let mut starts = [0u64; 1023];
-    let mut counts = [0u64; 1023];
-    let mut order = [0u16; 1023];
+    let mut starts = [0u64; MOST_ARCS];
+    let mut counts = [0u64; MOST_ARCS];
+    let mut order = [0u16; MOST_ARCS];
     split_laid_out(
         parents,
         costs,

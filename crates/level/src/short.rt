@@ -1,4 +1,5 @@
 // Whether the caps of every arc's users add up to the arc's need.
+use limits::MOST_ARCS;
 ghost use mathlib.Core.Path.{_≡_};
 ghost use Prim.Native.Nat.{ℕ};
 ghost use mathlib.Core.List.{[]};
@@ -75,8 +76,8 @@ pub fn find_short(parents: &[u16], costs: &[u32], vertices: &[u16], caps: &[u64]
     ensures { λ r. ⌜ answerOf (memberCount (network (treeOf (now (parents .entry)) (now (costs .entry))))) r ≡ splitOr9 (network (treeOf (now (parents .entry)) (now (costs .entry)))) (now (caps .entry)) (shortArc (network (treeOf (now (parents .entry)) (now (costs .entry)))) (now (caps .entry)) (length (now (parents .entry)))) ⌝ }
 {
     let m = parents.len();
-    let mut needs = [0u64; 1023];
-    let mut sums = [0u64; 1023];
+    let mut needs = [0u64; MOST_ARCS];
+    let mut sums = [0u64; MOST_ARCS];
     compare(
         parents,
         costs,

@@ -12,7 +12,9 @@ use Rattle.game.specs.Proposal.{share}
 use Rattle.basics.specs.Integer.{plus, minus}
 use Rattle.basics.proofs.Sums.{sum-bound}
 use Rattle.answer_forms.specs.Answer.{accepted}
-use Rattle.answers.specs.Checks.{proposalCheck, outsideShare, mostShare}
+use Rattle.answers.specs.Checks.{proposalCheck, outsideShare}
+use Rattle.limits.specs.Limits.{mostShare, mostArcs}
+use Rattle.limits.specs.Inner.{mostTotal}
 use Rattle.checks.proofs.Range.{list-accepted}
 
 pub share-most : (members : ℕ) (l : List ℤ) → proposalCheck members l ≡ accepted → (j : ℕ) → natAbs (share l j) ≤ mostShare
@@ -36,8 +38,8 @@ module _ (part : ℤ → ℕ) (l : List ℤ) where
   pub sum-next : (n : ℕ) {s x : ℕ} → s ≡ partSum part l n → x ≡ part (share l n) → s + x ≡ partSum part l (n + 1)
   sum-next n e d = rw add-one (omega arith)
 
-  pub sum-most : (members : ℕ) → ((z : ℤ) → part z ≤ natAbs z) → proposalCheck members l ≡ accepted → (n : ℕ) → n ≤ 1023
-      → partSum part l n ≤ 2046000000000000
+  pub sum-most : (members : ℕ) → ((z : ℤ) → part z ≤ natAbs z) → proposalCheck members l ≡ accepted → (n : ℕ) → n ≤ mostArcs
+      → partSum part l n ≤ mostTotal
   sum-most members size checked n h =
       omega (
         arith,

@@ -4,6 +4,7 @@ use mathlib.Core.Path.{_≡_}
 use mathlib.Core.List.{List}
 use lib.ListN.{length}
 use lib.IntN.{ℤ}
+use Rattle.limits.specs.Inner.{mostTotal}
 use Rattle.basics.specs.Sum.{sum}
 use Rattle.game.specs.Proposal.{share}
 use Rattle.basics.specs.Integer.{plus, minus}
@@ -19,5 +20,5 @@ minusSum l = sum (length l) (λ i. minus (share l (pred i)))
 pub record Summed (l : List ℤ) (above below : ℕ) : Type 0 where
   pub plus-is : above ≡ plusSum l
   pub minus-is : below ≡ minusSum l
-  pub plus-most : above ≤ 2046000000000000
-  pub minus-most : below ≤ 2046000000000000
+  pub plus-most : above ≤ mostTotal
+  pub minus-most : below ≤ mostTotal

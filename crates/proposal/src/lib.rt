@@ -6,6 +6,7 @@ ghost use lib.IntN.{subℕ};
 ghost use Rattle.answer_forms.specs.Answer.{accepted};
 ghost use Rattle.answers.specs.Checks.{proposalCheck};
 ghost use Rattle.proposal.specs.Parts.{Summed};
+ghost use Rattle.limits.specs.Limits.{mostArcs};
 
 // a less b.
 pub fn less(a: u64, b: u64) -> i64
@@ -24,7 +25,7 @@ pub struct Parts {
 
 pub fn parts_of(proposal: &[i64]) -> Parts
     requires { ⌜ proposalCheck (length (now proposal)) (now proposal) ≡ accepted ⌝ }
-    requires { ⌜ length (now proposal) ≤ 1023 ⌝ }
+    requires { ⌜ length (now proposal) ≤ mostArcs ⌝ }
     ensures { λ r. ⌜ Summed (now (proposal .entry)) (r .plus) (r .minus) ⌝ }
 {
     let mut above: u64 = 0;

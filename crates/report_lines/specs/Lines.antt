@@ -7,7 +7,6 @@ use lib.ListN.{getD}
 use lib.IntN.{ℤ, pos}
 use Rattle.basics.specs.Bit.{bit}
 use Rattle.answer_forms.specs.Answer.{Answer, value, refusal}
-use Rattle.answers.specs.Needs.{NeedsValue}
 use Rattle.answers.specs.Audit.{Verdict, wrongTotal, objection, pass}
 use Rattle.answers.specs.Level.{LevelAnswer, split, refusal as notSplit}
 use Rattle.text.specs.Ascii.{ascii}
@@ -29,11 +28,6 @@ refusedLine number place = labelled "refused " number ++ labelled " at " place +
 -- the whole cost and the number of members
 abbrev pub costLine : ℕ → ℕ → List ℕ
 costLine whole members = labelled "cost " whole ++ labelled " members " members ++ newline
-
--- the needs of a job that was read are not refused
-abbrev pub needsLine : Answer NeedsValue → List ℕ
-needsLine (value found) = costLine (found .whole) (found .members)
-needsLine (refusal number place) = refusedLine number place
 
 -- the member numbers below j whose bits are set, in rising order, a space before each
 unfoldable pub groupText : List ℕ → ℕ → List ℕ

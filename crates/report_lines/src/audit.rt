@@ -10,6 +10,7 @@ ghost use Rattle.basics.specs.Bit.{digit};
 ghost use Rattle.engine.specs.Outcomes.{auditOf};
 ghost use Rattle.text.specs.Put.{Put};
 ghost use Rattle.report_lines.specs.Lines.{labelled, groupText, objectionLine, totalLine, auditLine};
+ghost use Rattle.limits.specs.Limits.{mostArcs, groupBits};
 
 // A space and the number where the member's bit in its word is set.
 fn put_if(out: &mut [u8], at: usize, word: u64, j: usize) -> usize
@@ -26,7 +27,7 @@ fn put_if(out: &mut [u8], at: usize, word: u64, j: usize) -> usize
 
 // The group's members below a number.
 fn put_group(out: &mut [u8], at: usize, words: [u64; 16], members: usize) -> usize
-    requires { ⌜ members ≤ 1024 ⌝ }
+    requires { ⌜ members ≤ groupBits ⌝ }
     requires { ⌜ at + 21 * members ≤ length (now out) ⌝ }
     ensures { λ r. ⌜ Put (now (out .entry)) at (groupText words members) (now (out .exit)) r ⌝ }
     ensures { λ r. ⌜ r ≤ at + 21 * members ⌝ }
@@ -48,7 +49,7 @@ fn put_objection(
     words: [u64; 16],
     members: usize,
 ) -> usize
-    requires { ⌜ members ≤ 1023 ⌝ }
+    requires { ⌜ members ≤ mostArcs ⌝ }
     requires { ⌜ at + 22000 ≤ length (now out) ⌝ }
     ensures { λ r. ⌜ Put (now (out .entry)) at (objectionLine amount size words members) (now (out .exit)) r ⌝ }
     ensures { λ r. ⌜ r ≤ at + 22000 ⌝ }
@@ -71,7 +72,7 @@ fn put_total(out: &mut [u8], at: usize, difference: i64) -> usize
 
 // The line has room in 22,000 bytes.
 pub fn put_audit(out: &mut [u8], at: usize, members: usize, audited: Audited) -> usize
-    requires { ⌜ members ≤ 1023 ⌝ }
+    requires { ⌜ members ≤ mostArcs ⌝ }
     requires { ⌜ at + 22000 ≤ length (now out) ⌝ }
     ensures { λ r. ⌜ Put (now (out .entry)) at (auditLine members (auditOf (audited .answer)) (audited .group)) (now (out .exit)) r ⌝ }
     ensures { λ r. ⌜ r ≤ at + 22000 ⌝ }

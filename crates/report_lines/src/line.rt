@@ -5,7 +5,8 @@ ghost use Prim.Native.Nat.{_+_, _≤_};
 ghost use lib.ListN.{length};
 ghost use Rattle.engine.specs.Outcomes.{needsOf, levelOf};
 ghost use Rattle.text.specs.Put.{Put};
-ghost use Rattle.report_lines.specs.Lines.{refusedLine, costLine, needsLine, shortLine, levelLine};
+ghost use Rattle.report_lines.specs.Lines.{refusedLine, costLine, shortLine, levelLine};
+ghost use Rattle.report_lines.specs.Inner.{needsLine};
 
 pub fn put_refused(out: &mut [u8], at: usize, number: u32, place: usize) -> usize
     requires { ⌜ at + 100 ≤ length (now out) ⌝ }

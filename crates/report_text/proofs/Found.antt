@@ -6,6 +6,7 @@ use native.Mathlib.Omega.{arith}
 use borrow.Author.Tests.{eq-eqb}
 use lib.ListN.{length, take, replicate, length-replicate, getD-replicate}
 use lib.Seq.{getD-take, ext-getD}
+use Rattle.limits.specs.Limits.{mostArcs}
 use Rattle.game.specs.Network.{wholeCost, memberCount, members}
 use Rattle.game.specs.Tree.{Tree, network}
 use Rattle.basics.proofs.Lists.{zeros-length}
@@ -20,7 +21,7 @@ exact : (wanted found : ℕ) → found ≡ wanted → lengthCheck wanted found �
 exact wanted found e = rw (eq-eqb found wanted e)
 
 -- a list with an entry a member is within 1,023
-pub few-members : (t : Tree) (n : ℕ) → treeCheck t ≡ accepted → n ≡ memberCount (network t) → n ≤ 1023
+pub few-members : (t : Tree) (n : ℕ) → treeCheck t ≡ accepted → n ≡ memberCount (network t) → n ≤ mostArcs
 few-members t n tree e = rw e (members-bound t (tree-accepted t tree))
 
 module _ (t : Tree) (tree : treeCheck t ≡ accepted) (out : List ℕ) where
@@ -33,11 +34,11 @@ module _ (t : Tree) (tree : treeCheck t ≡ accepted) (out : List ℕ) where
   members-listed e = rw (tree, exact (memberCount (network t)) (length out) e)
 
 -- the front of an array of zeros
-pub zeros : (n : ℕ) → n ≤ 1023 → take {A = ℕ} (n - 0) (replicate 1023 0) ≡ replicate n 0
+pub zeros : (n : ℕ) → n ≤ mostArcs → take {A = ℕ} (n - 0) (replicate mostArcs 0) ≡ replicate n 0
 zeros n h =
-    ext-getD {A = ℕ} 0 (take (n - 0) (replicate 1023 0)) (replicate n 0)
-    (zeros-length n h ∙ sym (length-replicate n 0))
+    ext-getD {A = ℕ} 0 (take (n - 0) (replicate mostArcs 0)) (replicate n 0)
+    (zeros-length mostArcs n h ∙ sym (length-replicate n 0))
     (λ i l.
-    getD-take {A = ℕ} (n - 0) (replicate 1023 0) i 0 (omega (arith, zeros-length n h))
-    ∙ getD-replicate {A = ℕ} 1023 i 0 0 (omega (arith, zeros-length n h))
-    ∙ sym (getD-replicate {A = ℕ} n i 0 0 (omega (arith, zeros-length n h))))
+    getD-take {A = ℕ} (n - 0) (replicate mostArcs 0) i 0 (omega (arith, zeros-length mostArcs n h))
+    ∙ getD-replicate {A = ℕ} mostArcs i 0 0 (omega (arith, zeros-length mostArcs n h))
+    ∙ sym (getD-replicate {A = ℕ} n i 0 0 (omega (arith, zeros-length mostArcs n h))))

@@ -6,6 +6,7 @@ use native.Mathlib.Omega.{arith}
 use native.Mathlib.Nat.{sub-zero}
 use lib.ListN.{length, take, length-append}
 use lib.Seq.{length-take-le}
+use Rattle.limits.specs.Limits.{mostArcs}
 use Rattle.game.specs.Network.{memberCount}
 use Rattle.basics.proofs.Lists.{list-length, list-part}
 use Rattle.game.specs.Tree.{treeOf, network}
@@ -48,10 +49,10 @@ pub record Fronts (bytes : List ℕ) (v : JobValue) (l : Lent) : Type 0 where
 
 -- each list has room for the largest tree
 pub record Roomy (l : Lent) : Type 0 where
-  pub parents : length (l .parents) ≡ 1023
-  pub costs : length (l .costs) ≡ 1023
-  pub caps : length (l .caps) ≡ 1023
-  pub proposals : length (l .proposals) ≡ 1023
+  pub parents : length (l .parents) ≡ mostArcs
+  pub costs : length (l .costs) ≡ mostArcs
+  pub caps : length (l .caps) ≡ mostArcs
+  pub proposals : length (l .proposals) ≡ mostArcs
 
 module _ (bytes : List ℕ) (l : Lent) (room : Roomy l) where
   checked : readCheck bytes l ≡ jobCheck bytes

@@ -1,4 +1,5 @@
 // The lines on an accepted job.
+use limits::MOST_ARCS;
 use report_lines::put_audit;
 use report_lines::put_level;
 use report_lines::put_members;
@@ -33,7 +34,7 @@ fn put_tree(parents: &[u16], costs: &[u32], proposed: &[i64], out: &mut [u8], at
     ensures { λ r. ⌜ Put (now (out .entry)) at (treeText (treeOf (now (parents .entry)) (now (costs .entry))) (now (proposed .entry))) (now (out .exit)) r ⌝ }
     ensures { λ r. ⌜ r ≤ at + 22100 ⌝ }
 {
-    let mut needs = [0u64; 1023];
+    let mut needs = [0u64; MOST_ARCS];
     let arcs = parents.len();
     let next = put_cost(parents, costs, &mut needs[0..arcs], out, at);
     put_audit(
@@ -85,9 +86,9 @@ pub fn put_job(
     ensures { λ r. ⌜ Put (now (out .entry)) 0 (jobText (treeOf (now (parents .entry)) (now (costs .entry))) (now (caps .entry)) (now (proposed .entry))) (now (out .exit)) r ⌝ }
 {
     let members = proposed.len();
-    let mut vertices = [0u16; 1023];
-    let mut by_arc = [0u64; 1023];
-    let mut shares = [0u64; 1023];
+    let mut vertices = [0u16; MOST_ARCS];
+    let mut by_arc = [0u64; MOST_ARCS];
+    let mut shares = [0u64; MOST_ARCS];
     let next = put_tree(parents, costs, proposed, out, 0);
     put_splits(
         parents,

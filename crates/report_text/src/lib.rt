@@ -3,12 +3,14 @@ mod accepted;
 
 use accepted::put_job;
 use job::JobRead;
+use limits::MOST_ARCS;
 use report_lines::put_refused;
 ghost use mathlib.Core.Path.{_≡_};
 ghost use Prim.Native.Nat.{_≤_};
 ghost use lib.ListN.{length};
 ghost use Rattle.text.specs.Put.{Put};
 ghost use Rattle.report_text.specs.Report.{reportText};
+ghost use Rattle.limits.specs.Limits.{mostArcs};
 
 // Room for the longest report.
 pub const ROOM: usize = 196608;
@@ -22,10 +24,10 @@ fn put_report(
     proposed: &mut [i64],
     out: &mut [u8],
 ) -> usize
-    requires { ⌜ length (now parents) ≡ 1023 ⌝ }
-    requires { ⌜ length (now costs) ≡ 1023 ⌝ }
-    requires { ⌜ length (now caps) ≡ 1023 ⌝ }
-    requires { ⌜ length (now proposed) ≡ 1023 ⌝ }
+    requires { ⌜ length (now parents) ≡ mostArcs ⌝ }
+    requires { ⌜ length (now costs) ≡ mostArcs ⌝ }
+    requires { ⌜ length (now caps) ≡ mostArcs ⌝ }
+    requires { ⌜ length (now proposed) ≡ mostArcs ⌝ }
     requires { ⌜ 190000 ≤ length (now out) ⌝ }
     ensures { λ r. ⌜ Put (now (out .entry)) 0 (reportText (now (bytes .entry))) (now (out .exit)) r ⌝ }
 {
@@ -46,10 +48,10 @@ fn put_report(
 pub fn report_text(bytes: &[u8], out: &mut [u8; ROOM]) -> usize
     ensures { λ r. ⌜ Put (now (out .entry)) 0 (reportText (now (bytes .entry))) (now (out .exit)) r ⌝ }
 {
-    let mut parents = [0u16; 1023];
-    let mut costs = [0u32; 1023];
-    let mut caps = [0u64; 1023];
-    let mut proposed = [0i64; 1023];
+    let mut parents = [0u16; MOST_ARCS];
+    let mut costs = [0u32; MOST_ARCS];
+    let mut caps = [0u64; MOST_ARCS];
+    let mut proposed = [0i64; MOST_ARCS];
     put_report(
         bytes,
         &mut parents,

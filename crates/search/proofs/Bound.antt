@@ -5,6 +5,7 @@ use mathlib.Core.List.{List}
 use native.Mathlib.Omega.{arith}
 use lib.ListN.{length}
 use lib.IntN.{ℤ, pos}
+use Rattle.limits.specs.Inner.{mostTotal}
 use Rattle.basics.specs.Sum.{sum}
 use Rattle.game.specs.Network.{memberCount}
 use Rattle.game.specs.Tree.{Tree, network}
@@ -31,7 +32,7 @@ module _ (t : Tree) (shares : List ℤ) (ok : Proposed t shares) where
   proposal-ok : proposalCheck (memberCount (network t)) shares ≡ accepted
   proposal-ok = second-accepted (treeCheck t) (proposalCheck (memberCount (network t)) shares) (ok .accepts)
 
-  pub weights-bound : sum (length (t .parents)) (over-at (network t) shares) ≤ 2046000000000000
+  pub weights-bound : sum (length (t .parents)) (over-at (network t) shares) ≤ mostTotal
   weights-bound =
       omega (
         arith,

@@ -10,6 +10,7 @@ use lib.ListN.{length, getD, set, replicate, length-set, length-replicate}
 use lib.Seq.{getD-set-same, getD-set-other}
 use lib.IntN.{ℤ}
 use lib.Dec.{eqb}
+use Rattle.limits.specs.Inner.{mostTotal}
 use Rattle.basics.specs.Sum.{pick, sum}
 use Rattle.game.specs.Network.{memberCount}
 use Rattle.game.specs.Tree.{Tree, network, ofArc, hasChild}
@@ -103,7 +104,7 @@ module _ (t : Tree) (shares : List ℤ) (ok : Proposed t shares) where
           ∙ ap₂ (λ (a b : ℕ). a - b) amount (ap (ofArc (t .costs)) (sym next))
           ∙ sym (excess-of (network t) rooted (weight t shares) k (omega arith))
 
-    pub passing-carry : (y : ℕ) → y ≡ excess t shares k → getD below (getD (t .parents) i 0) 0 + y ≤ 2046000000000000
+    pub passing-carry : (y : ℕ) → y ≡ excess t shares k → getD below (getD (t .parents) i 0) 0 + y ≤ mostTotal
     passing-carry y e =
         omega (
           arith,

@@ -1,4 +1,5 @@
 // The excess of each arc: what the positive shares of its users exceed its cost by, after the arcs below it.
+use limits::MOST_ARCS;
 ghost use mathlib.Core.Path.{_≡_};
 ghost use Prim.Native.Nat.{_<_};
 ghost use mathlib.Core.Bool.{not, false};
@@ -15,8 +16,8 @@ pub struct Excesses {
     // All excess, that of the arcs from the source.
     pub total: u64,
     // By vertex: the excess of the arc that enters it, and whether it is an inner vertex, with a child.
-    pub of: [u64; 1024],
-    pub inner: [bool; 1024],
+    pub of: [u64; MOST_ARCS + 1],
+    pub inner: [bool; MOST_ARCS + 1],
 }
 
 // A member's positive share; 0 at a vertex that has a child.
@@ -34,9 +35,9 @@ pub fn find_excesses(parents: &[u16], costs: &[u32], proposal: &[i64]) -> Excess
     requires { ⌜ auditCheck (treeOf (now parents) (now costs)) (now proposal) ≡ accepted ⌝ }
     ensures { λ r. ⌜ Exceeding (treeOf (now (parents .entry)) (now (costs .entry))) (now (proposal .entry)) (r .total) (r .of) (r .inner) ⌝ }
 {
-    let mut has_child = [false; 1024];
-    let mut below = [0u64; 1024];
-    let mut of = [0u64; 1024];
+    let mut has_child = [false; MOST_ARCS + 1];
+    let mut below = [0u64; MOST_ARCS + 1];
+    let mut of = [0u64; MOST_ARCS + 1];
     let mut j = proposal.len();
     let mut k = parents.len() + 1;
     while k > 1 {

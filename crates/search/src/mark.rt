@@ -1,4 +1,5 @@
 // The active members: those with an excess at their own arc and at every arc above it.
+use limits::MOST_ARCS;
 ghost use mathlib.Core.Path.{_≡_};
 ghost use mathlib.Core.Bool.{_&&_, not};
 ghost use lib.Dec.{ltb};
@@ -19,12 +20,12 @@ fn chosen(active: bool, has_child: bool) -> bool
 }
 
 // The words of the active members, from the source outward.
-pub fn mark(parents: &[u16], of: [u64; 1024], inner: [bool; 1024]) -> [u64; 16]
+pub fn mark(parents: &[u16], of: [u64; MOST_ARCS + 1], inner: [bool; MOST_ARCS + 1]) -> [u64; 16]
     requires { ⌜ Sound (now parents) ⌝ }
     requires { ⌜ Ends (now parents) inner ⌝ }
     ensures { λ r. ⌜ Marked (now (parents .entry)) of r ⌝ }
 {
-    let mut active = [false; 1024];
+    let mut active = [false; MOST_ARCS + 1];
     active[0] = true;
     let mut words = [0u64; 16];
     let mut j = 0;

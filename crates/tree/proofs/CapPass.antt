@@ -19,7 +19,8 @@ use Rattle.game.proofs.Numbering.{members-length, member-at, Vertex, vertex-of}
 use Rattle.game.proofs.Overpayment.{number-lt}
 use Rattle.game.proofs.LevelList.{view, view-off}
 use Rattle.game.proofs.Bump.{below-cong}
-use Rattle.answers.specs.Checks.{mostShare}
+use Rattle.limits.specs.Limits.{mostShare, mostArcs}
+use Rattle.limits.specs.Inner.{mostTotal}
 use Rattle.tree.specs.Passes.{Capped}
 use Rattle.answers.specs.Level.{capSum}
 
@@ -110,7 +111,7 @@ module _ (n : Network) (caps : List ℕ) where
           (λ (m : n .member (suc u) ≡ false). no-cap (suc u) (ltb (number n (suc u)) j) i m ∙ sym (view-off n caps (suc u) i m))
           (both (n .member (suc u)))
 
-      pub placing-fits : {k : ℕ} → n .arcs ≤ 1023 → Capped k caps → sum (length out) (ofArc out) ≤ 2046000000000000
+      pub placing-fits : {k : ℕ} → n .arcs ≤ mostArcs → Capped k caps → sum (length out) (ofArc out) ≤ mostTotal
       placing-fits few c =
           omega (
             arith,

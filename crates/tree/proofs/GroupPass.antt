@@ -8,6 +8,8 @@ use native.Mathlib.Nat.{zero-add}
 use native.Mathlib.Omega.{arith}
 use lib.ListN.{length, getD, set, replicate}
 use lib.Dec.{eqb}
+use Rattle.limits.specs.Inner.{mostWhole}
+use Rattle.limits.specs.Limits.{mostArcs}
 use Rattle.basics.specs.Sum.{pick, sum, some}
 use Rattle.game.specs.Network.{used, groupCost, wholeCost, number, memberCount}
 use Rattle.game.specs.Tree.{Tree, network, ofArc, hasChild}
@@ -55,7 +57,7 @@ module _ (t : Tree) (words : List ℕ) (ok : Accepted t) where
   costing-end {cost} e s = omega (arith, s .costed, ap (λ (i : ℕ). sum i (λ u. pick (inUse t words u) (ofArc (t .costs) u))) e)
 
   -- no group costs more than the whole
-  group-bound : groupCost (network t) (chosen t words) ≤ 1023000000000
+  group-bound : groupCost (network t) (chosen t words) ≤ mostWhole
   unfolding groupCost wholeCost
   group-bound =
       omega (
@@ -87,7 +89,7 @@ module _ (t : Tree) (words : List ℕ) (ok : Accepted t) where
     pub costing-room : (w : ℕ) → w ≡ pick (not (getD has k false)) 1 → w ≤ j
     costing-room = left-room (t .parents) (sound t ok) k i within next (s .members)
 
-    pub costing-few : j ≤ 1023
+    pub costing-few : j ≤ mostArcs
     costing-few = omega (arith, s .members .left, count-le k (isMember (t .parents)), ok .few)
 
     pub costing-number : (w : ℕ) → w ≡ pick (not (getD has k false)) 1 → j - w ≡ number (network t) k
@@ -123,7 +125,7 @@ module _ (t : Tree) (words : List ℕ) (ok : Accepted t) where
             let u = some-is (length (t .parents)) (λ u. eqb (ofArc (t .parents) u) (suc i) && inUse t words u) c in
             clash (has-child-of (t .parents) (u .which) (suc i) (u .within) (and-first (eqb (ofArc (t .parents) (u .which)) (suc i)) (inUse t words (u .which)) (u .passes))) h)
 
-    pub costing-fits : {here : Bool} {paid : ℕ} → here ≡ inUse t words k → paid ≡ pick here (getD (t .costs) i 0) → cost + paid ≤ 1023000000000
+    pub costing-fits : {here : Bool} {paid : ℕ} → here ≡ inUse t words k → paid ≡ pick here (getD (t .costs) i 0) → cost + paid ≤ mostWhole
     costing-fits {here} e p = omega (arith, costed-on here e, group-bound)
 
     pub costing-on : {w paid : ℕ} {here up : Bool} → w ≡ pick (not (getD has k false)) 1 → here ≡ inUse t words k → paid ≡ pick here (getD (t .costs) i 0)

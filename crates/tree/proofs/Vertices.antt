@@ -4,6 +4,7 @@ use mathlib.Core.Path.{_≡_}
 use mathlib.Core.List.{List, []}
 use native.Mathlib.Omega.{arith}
 use lib.ListN.{length}
+use Rattle.limits.specs.Limits.{mostArcs}
 use Rattle.game.specs.Network.{memberCount, members}
 use Rattle.game.specs.Tree.{treeOf, network}
 use Rattle.basics.proofs.Sums.{count-le}
@@ -15,5 +16,5 @@ module _ (ps vertices : List ℕ) (are : vertices ≡ members (network (treeOf p
   pub vertices-count : length vertices ≡ memberCount (network (treeOf ps []))
   vertices-count = member-count (network (treeOf ps [])) are
 
-  pub vertices-few : Sound ps → length vertices ≤ 1023
+  pub vertices-few : Sound ps → length vertices ≤ mostArcs
   vertices-few sound = omega (arith, vertices-count, count-le (length ps) (isMember ps), sound .few)

@@ -4,11 +4,11 @@ use mathlib.Core.Path.{_≡_}
 use mathlib.Core.List.{List}
 use lib.ListN.{length, getD}
 use Rattle.game.specs.Tree.{ofArc}
-use Rattle.answers.specs.Checks.{mostShare}
+use Rattle.limits.specs.Limits.{mostShare, mostArcs}
 
 -- at most 1,023 arcs, each with a parent below it
 pub record Sound (parents : List ℕ) : Type 0 where
-  pub few : length parents ≤ 1023
+  pub few : length parents ≤ mostArcs
   pub rising : (v : ℕ) → ofArc parents (suc v) ≤ v
 
 -- one cap a member, none above the limit

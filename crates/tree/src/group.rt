@@ -1,5 +1,6 @@
 // The cost of a group in one pass: that an arc is used is carried to its parent.
 use crate::members::one_if_member;
+use limits::MOST_ARCS;
 ghost use mathlib.Core.Path.{_≡_};
 ghost use mathlib.Core.Bool.{_||_, cond};
 ghost use Rattle.basics.specs.Sum.{pick};
@@ -35,8 +36,8 @@ pub fn cost_of(parents: &[u16], costs: &[u32], words: [u64; 16], members: usize)
     requires { ⌜ members ≡ memberCount (network (treeOf (now parents) (now costs))) ⌝ }
     ensures { λ r. ⌜ r ≡ groupCost (network (treeOf (now (parents .entry)) (now (costs .entry)))) (byNumber (network (treeOf (now (parents .entry)) (now (costs .entry)))) (bit words)) ⌝ }
 {
-    let mut has_child = [false; 1024];
-    let mut used = [false; 1024];
+    let mut has_child = [false; MOST_ARCS + 1];
+    let mut used = [false; MOST_ARCS + 1];
     let mut j = members;
     let mut cost: u64 = 0;
     let mut k = parents.len() + 1;

@@ -1,4 +1,5 @@
 // The members: the vertices from 1 on that have no child. Costs do not decide who is a member.
+use limits::MOST_ARCS;
 ghost use mathlib.Core.Path.{_≡_};
 ghost use Prim.Native.Nat.{_≤_, _-_};
 ghost use mathlib.Core.Bool.{not, cond, false};
@@ -21,7 +22,7 @@ pub fn count_members(parents: &[u16]) -> usize
     requires { ⌜ Sound (now parents) ⌝ }
     ensures { λ r. ⌜ r ≡ memberCount (network (treeOf (now (parents .entry)) [])) ⌝ }
 {
-    let mut has_child = [false; 1024];
+    let mut has_child = [false; MOST_ARCS + 1];
     let mut n = 0;
     let mut k = parents.len() + 1;
     while k > 1 {
@@ -52,7 +53,7 @@ pub fn write_members(parents: &[u16], out: &mut [u16])
     requires { ⌜ length (now out) ≡ memberCount (network (treeOf (now parents) [])) ⌝ }
     ensures { λ _. ⌜ now (out .exit) ≡ members (network (treeOf (now (parents .entry)) [])) ⌝ }
 {
-    let mut has_child = [false; 1024];
+    let mut has_child = [false; MOST_ARCS + 1];
     let mut j = out.len();
     let mut k = parents.len() + 1;
     while k > 1 {

@@ -1,4 +1,5 @@
 // Sums of what stands below, in one pass: an arc's sum is carried to its parent.
+use limits::MOST_ARCS;
 ghost use mathlib.Core.Path.{_≡_};
 ghost use Prim.Native.Nat.{_≤_};
 ghost use mathlib.Core.List.{[]};
@@ -16,7 +17,7 @@ pub fn add_up(parents: &[u16], out: &mut [u64]) -> u64
     ensures { λ r. ⌜ r ≡ sum (length (now (out .entry))) (ofArc (now (out .entry))) ⌝ }
     ensures { λ _. ⌜ now (out .exit) ≡ list (length (now (parents .entry))) (sumBelow (network (treeOf (now (parents .entry)) [])) (ofArc (now (out .entry)))) ⌝ }
 {
-    let mut below = [0u64; 1024];
+    let mut below = [0u64; MOST_ARCS + 1];
     let mut k = parents.len() + 1;
     while k > 1 {
         k -= 1;

@@ -7,6 +7,7 @@ use native.Mathlib.Omega.{arith}
 use borrow.Author.Tests.{eq-eqb, ne-eqb}
 use lib.ListN.{length, getD, set, replicate, length-set, length-replicate}
 use lib.Seq.{getD-set-same, getD-set-other}
+use Rattle.limits.specs.Limits.{mostArcs}
 use Rattle.game.specs.Tree.{ofArc}
 use Rattle.basics.proofs.Bools.{pick-yes, pick-no}
 use Rattle.basics.proofs.Sums.{In, sum-zero}
@@ -17,7 +18,7 @@ module _ (ps counts : List ℕ) where
   -- after the arcs 1 to i the next child arc of v begins at `place`
   pub record Next (starts : List ℕ) (i v place : ℕ) : Type 0 where
     pub is : place ≡ ofArc starts v + leaving (ofArc ps) (ofArc counts) v i
-    pub small : place ≤ i * 1023
+    pub small : place ≤ i * mostArcs
 
   -- the arcs 1 to i begin where they are to
   pub record Beginning (starts next : List ℕ) (i : ℕ) : Type 0 where

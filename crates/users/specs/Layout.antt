@@ -4,13 +4,14 @@ use mathlib.Core.Path.{_≡_}
 use mathlib.Core.List.{List}
 use lib.ListN.{length, getD}
 use lib.Dec.{eqb}
+use Rattle.limits.specs.Limits.{mostArcs}
 use Rattle.basics.specs.Sum.{pick, sum}
 use Rattle.game.specs.Tree.{ofArc}
 
 -- one number of users an arc, none above 1,023
 pub record Counts (arcs : ℕ) (counts : List ℕ) : Type 0 where
   pub sized : length counts ≡ arcs
-  pub limited : (i : ℕ) → i < arcs → getD counts i 0 ≤ 1023
+  pub limited : (i : ℕ) → i < arcs → getD counts i 0 ≤ mostArcs
 
 -- the sum of x over those of the arcs 1 to i that leave vertex p
 abbrev pub leaving : (ℕ → ℕ) → (ℕ → ℕ) → ℕ → ℕ → ℕ
@@ -32,7 +33,7 @@ slot vertices starts j = ofArc starts (getD vertices j 0)
 
 -- every member has an arc and a place of its own
 pub record Apart (vertices starts : List ℕ) : Type 0 where
-  pub few : length vertices ≤ 1023
+  pub few : length vertices ≤ mostArcs
   pub first : (j : ℕ) → j < length vertices → 1 ≤ getD vertices j 0
   pub last : (j : ℕ) → j < length vertices → getD vertices j 0 ≤ length starts
   pub within : (j : ℕ) → j < length vertices → slot vertices starts j < length vertices

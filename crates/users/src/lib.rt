@@ -1,4 +1,5 @@
 // The members in depth-first order, so that the users of every arc stand side by side in one list.
+use limits::MOST_ARCS;
 ghost use mathlib.Core.Path.{_≡_};
 ghost use mathlib.Core.List.{[]};
 ghost use lib.ListN.{length};
@@ -17,7 +18,7 @@ fn write_starts(parents: &[u16], counts: &[u64], starts: &mut [u64])
     requires { ⌜ length (now starts) ≡ length (now parents) ⌝ }
     ensures { λ _. ⌜ Begun (now (parents .entry)) (now (counts .entry)) (now (starts .exit)) ⌝ }
 {
-    let mut next = [0u64; 1024];
+    let mut next = [0u64; MOST_ARCS + 1];
     let mut i = 0;
     while i < parents.len() {
         let p = parents[i] as usize;

@@ -1,7 +1,7 @@
 use Prim.Native.Nat.{ℕ, _-_}
 use mathlib.Core.Path.{ap, _∙_}
 use borrow.Author.Needs.{needs}
-use Rattle.game.specs.Raise.{took}
+use Rattle.game.proofs.Rise.{took}
 use Rattle.fill.proofs.part_of.Statement.{statement}
 use Rattle.fill.proofs.part_of.Tie as tie
 

@@ -8,6 +8,7 @@ use lib.ListN.{length}
 use lib.IntN.{ℤ, natAbs}
 use mir.Syntax.{w64}
 use mir.Facts.{toZ-ofZ}
+use Rattle.limits.specs.Inner.{mostTotal}
 use Rattle.basics.specs.Integer.{plus, minus}
 use Rattle.proposal.proofs.Sums.{partSum, plus-size, minus-size, sum-next, sum-most}
 use Rattle.proposal.proofs.parts_of.Statement.{statement}
@@ -24,7 +25,7 @@ abbrev shares : tie.At-loop Inv-loop μ-loop → List ℤ
 shares c = c .before .args .proposal .now
 
 within : (c : tie.At-loop Inv-loop μ-loop) (part : ℤ → ℕ) (n : ℕ) → ((z : ℤ) → part z ≤ natAbs z) → n ≤ length (shares c)
-    → partSum part (shares c) n ≤ 2046000000000000
+    → partSum part (shares c) n ≤ mostTotal
 within c part n size h = sum-most part (shares c) (length (shares c)) size (c .before .pre .0) n (omega arith)
 
 plus-next : (c : tie.After-plus Inv-loop μ-loop) → c .before .before .before .loop .above + c .plus .result

@@ -2,6 +2,7 @@ use Prim.Native.Nat.{_≤_}
 use native.Mathlib.Omega.{arith}
 use lib.ListN.{length}
 use denote.Ref.{now}
+use Rattle.limits.specs.Limits.{mostArcs}
 use Rattle.game.specs.Tree.{treeOf}
 use Rattle.answers.proofs.Accepted.{tree-accepted}
 use Rattle.basics.proofs.Lists.{zeros-length}
@@ -9,7 +10,7 @@ use borrow.Author.Needs.{needs}
 use Rattle.by_arc.proofs.arcs.split_arcs.Statement.{statement}
 use Rattle.by_arc.proofs.arcs.split_arcs.Tie as tie
 
-few : (c : tie.Start) → length (now (c .args .parents)) ≤ 1023
+few : (c : tie.Start) → length (now (c .args .parents)) ≤ mostArcs
 few c = tree-accepted (treeOf (now (c .args .parents)) (now (c .args .costs))) (c .pre .0) .few
 
 part-counts-end : tie.Need-part-counts-end
@@ -25,7 +26,7 @@ split-in-requires : tie.Need-split-in-requires
 split-in-requires c κs =
     let pre = c .before .before .before .before .before .before .before .before .pre in
     let few = tree-accepted _ (pre .0) .few in
-    (pre .0, (pre .1 .0, (pre .1 .1, (zeros-length _ few, (zeros-length _ few, zeros-length _ few)))))
+    (pre .0, (pre .1 .0, (pre .1 .1, (zeros-length mostArcs _ few, (zeros-length mostArcs _ few, zeros-length mostArcs _ few)))))
 
 pub split-arcs-spec : {M : Type 1} → statement M
 split-arcs-spec =

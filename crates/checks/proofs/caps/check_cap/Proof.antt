@@ -1,7 +1,7 @@
 use native.Mathlib.Omega.{arith}
 use borrow.Author.Needs.{needs}
 use borrow.Author.Tests.{lt-ltb, le-ltb}
-use Rattle.answers.specs.Checks.{mostShare}
+use Rattle.limits.specs.Limits.{mostShare}
 use Rattle.checks.proofs.caps.check_cap.Statement.{statement}
 use Rattle.checks.proofs.caps.check_cap.Tie as tie
 

@@ -3,6 +3,7 @@ use mathlib.Core.Path.{_≡_, ap, _∙_}
 use native.Mathlib.Omega.{arith}
 use lib.ListN.{length}
 use denote.Ref.{now}
+use Rattle.limits.specs.Limits.{mostArcs}
 use Rattle.game.specs.Network.{memberCount}
 use Rattle.game.specs.Tree.{treeOf, network}
 use Rattle.answer_forms.specs.Answer.{accepted}
@@ -42,14 +43,14 @@ returns-2 c =
 accepted-output : (c : tie.After-enum-told3) → lengthCheck (memberCount (network (treeOf (now (c .before .before .before .before .before .before .before .before .before .before .args .parents)) (now (c .before .before .before .before .before .before .before .before .before .before .args .costs))))) (length (now (c .before .before .before .before .before .before .before .before .before .before .args .out))) ≡ accepted
 accepted-output c = opened (output (c .before .before)) (c .enum-told3 .given .1)
 
-few-members : (c : tie.After-enum-told3) → c .before .before .before .count-members .result ≤ 1023
+few-members : (c : tie.After-enum-told3) → c .before .before .before .count-members .result ≤ mostArcs
 few-members c = omega (arith, c .before .before .before .count-members .ensures, members-bound (treeOf (now (c .before .before .before .before .before .before .before .before .before .before .args .parents)) (now (c .before .before .before .before .before .before .before .before .before .before .args .costs))) (tree-accepted (treeOf (now (c .before .before .before .before .before .before .before .before .before .before .args .parents)) (now (c .before .before .before .before .before .before .before .before .before .before .args .costs))) (accepted-tree (c .before .before .before .before))))
 
 part-vertices-end : tie.Need-part-vertices-end
 part-vertices-end c = omega (arith, few-members c)
 
 divide-requires : tie.Need-divide-requires
-divide-requires c κs = (accepted-tree (c .before .before .before .before .before .before), (zeros-length _ (few-members (c .before .before)) ∙ c .before .before .before .before .before .count-members .ensures, length-accepted _ _ (accepted-output (c .before .before))))
+divide-requires c κs = (accepted-tree (c .before .before .before .before .before .before), (zeros-length mostArcs _ (few-members (c .before .before)) ∙ c .before .before .before .before .before .count-members .ensures, length-accepted _ _ (accepted-output (c .before .before))))
 
 returns-3 : tie.Need-returns-3
 unfolding byArcAnswer byArcList

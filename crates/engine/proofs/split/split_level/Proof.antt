@@ -3,6 +3,7 @@ use mathlib.Core.Path.{_≡_, ap, _∙_}
 use native.Mathlib.Omega.{arith}
 use lib.ListN.{length}
 use denote.Ref.{now}
+use Rattle.limits.specs.Limits.{mostArcs}
 use Rattle.game.specs.Network.{memberCount}
 use Rattle.game.specs.Tree.{treeOf, network}
 use Rattle.answer_forms.specs.Answer.{accepted}
@@ -54,7 +55,7 @@ returns-3 c =
 accepted-output : (c : tie.After-enum-told5) → lengthCheck (memberCount (network (treeOf (now (c .before .before .before .before .before .before .before .before .before .before .before .before .before .before .args .parents)) (now (c .before .before .before .before .before .before .before .before .before .before .before .before .before .before .args .costs))))) (length (now (c .before .before .before .before .before .before .before .before .before .before .before .before .before .before .args .out))) ≡ accepted
 accepted-output c = opened (output-found (c .before .before)) (c .enum-told5 .given .1)
 
-few-members : (c : tie.After-enum-told5) → c .before .before .before .before .before .before .count-members .result ≤ 1023
+few-members : (c : tie.After-enum-told5) → c .before .before .before .before .before .before .count-members .result ≤ mostArcs
 few-members c = omega (arith, c .before .before .before .before .before .before .count-members .ensures, members-bound (treeOf (now (c .before .before .before .before .before .before .before .before .before .before .before .before .before .before .args .parents)) (now (c .before .before .before .before .before .before .before .before .before .before .before .before .before .before .args .costs))) (tree-accepted (treeOf (now (c .before .before .before .before .before .before .before .before .before .before .before .before .before .before .args .parents)) (now (c .before .before .before .before .before .before .before .before .before .before .before .before .before .before .args .costs))) (accepted-tree (c .before .before .before .before .before .before .before))))
 
 part-vertices-end : tie.Need-part-vertices-end
@@ -67,7 +68,7 @@ split-accepted-requires c κs =
       (
         accepted-caps (c .before .before .before .before .before),
         (
-          zeros-length _ (few-members (c .before .before)) ∙ c .before .before .before .before .before .before .before .before .count-members .ensures,
+          zeros-length mostArcs _ (few-members (c .before .before)) ∙ c .before .before .before .before .before .before .before .before .count-members .ensures,
           length-accepted _ _ (accepted-output (c .before .before)),
         ),
       ),

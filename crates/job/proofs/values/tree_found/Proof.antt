@@ -1,6 +1,6 @@
 use mathlib.Core.Path.{sym, ap}
 use borrow.Author.Needs.{needs}
-use Rattle.job.specs.Reader.{treeFound}
+use Rattle.job.specs.Inner.{treeFound}
 use Rattle.job.proofs.values.tree_found.Statement.{statement}
 use Rattle.job.proofs.values.tree_found.Tie as tie
 

@@ -4,6 +4,7 @@ use mathlib.Core.List.{[]}
 use native.Mathlib.Omega.{arith}
 use lib.ListN.{length, getD, replicate}
 use denote.Ref.{now}
+use Rattle.limits.specs.Limits.{mostArcs}
 use Rattle.game.specs.Network.{memberCount}
 use Rattle.game.specs.Tree.{treeOf, network}
 use Rattle.answers.proofs.Accepted.{tree-accepted}
@@ -33,7 +34,7 @@ loop-holds c =
 
 -- an arc's part of the layout ends within it
 part-fits : (c : tie.In-loop Inv-loop μ-loop)
-    → getD (now (c .before .before .before .before .before .before .before .before .before .before .before .before .before .args .starts)) (c .before .loop .k - 1) 0 + getD (now (c .before .before .before .before .before .before .before .before .before .before .before .before .before .args .counts)) (c .before .loop .k - 1) 0 ≤ 1023
+    → getD (now (c .before .before .before .before .before .before .before .before .before .before .before .before .before .args .starts)) (c .before .loop .k - 1) 0 + getD (now (c .before .before .before .before .before .before .before .before .before .before .before .before .before .args .counts)) (c .before .loop .k - 1) 0 ≤ mostArcs
 part-fits c =
     let at = c .before .loop in omega (arith, part-within (at .inv .0 .laid) (at .k) (omega arith) (at .inv .1), at .inv .0 .laid .order-sized, few (at .inv .0))
 

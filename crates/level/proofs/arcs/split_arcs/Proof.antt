@@ -1,4 +1,5 @@
 use native.Mathlib.Omega.{arith}
+use Rattle.limits.specs.Limits.{mostArcs}
 use Rattle.answers.proofs.Accepted.{tree-accepted}
 use Rattle.tree.proofs.Bounds.{sound}
 use Rattle.basics.proofs.Lists.{zeros-length}
@@ -20,8 +21,8 @@ split-laid-out-requires : tie.Need-split-laid-out-requires
 split-laid-out-requires c κs =
     let pre = c .before .before .before .before .before .before .before .before .before .pre in
     let ok = sound _ (tree-accepted _ (pre .0)) in
-    let arcs = zeros-length _ (ok .few) in
-    (pre .0, (pre .1 .0, (pre .1 .1 .0, (pre .1 .1 .1 .0, (pre .1 .1 .1 .1, (arcs, (arcs, zeros-length _ (vertices-few _ _ (pre .1 .0) ok))))))))
+    let arcs = zeros-length mostArcs _ (ok .few) in
+    (pre .0, (pre .1 .0, (pre .1 .1 .0, (pre .1 .1 .1 .0, (pre .1 .1 .1 .1, (arcs, (arcs, zeros-length mostArcs _ (vertices-few _ _ (pre .1 .0) ok))))))))
 
 pub split-arcs-spec : {M : Type 1} → statement M
 split-arcs-spec =

@@ -1,5 +1,6 @@
 use native.Mathlib.Omega.{arith}
 use denote.Ref.{now}
+use Rattle.limits.specs.Limits.{mostArcs}
 use Rattle.game.specs.Tree.{treeOf}
 use Rattle.answers.proofs.Accepted.{tree-accepted}
 use Rattle.basics.proofs.Lists.{zeros-length}
@@ -15,7 +16,7 @@ part-sums-end c = omega (arith, tree-accepted (treeOf (now (c .before .before .b
 
 compare-requires : tie.Need-compare-requires
 compare-requires c κs = let pre = c .before .before .before .before .before .before .pre in
-    let few = tree-accepted _ (pre .0) .few in (pre .0, (pre .1 .0, (pre .1 .1, (zeros-length _ few, zeros-length _ few))))
+    let few = tree-accepted _ (pre .0) .few in (pre .0, (pre .1 .0, (pre .1 .1, (zeros-length mostArcs _ few, zeros-length mostArcs _ few))))
 
 pub find-short-spec : {M : Type 1} → statement M
 find-short-spec =

@@ -3,6 +3,7 @@ use mathlib.Core.Path.{_≡_, ap, _∙_}
 use native.Mathlib.Omega.{arith}
 use denote.Ref.{now}
 use lib.ListN.{length, take, replicate}
+use Rattle.limits.specs.Limits.{mostArcs}
 use Rattle.game.specs.Tree.{treeOf}
 use Rattle.text.proofs.Pieces.{put-then}
 use Rattle.report_text.specs.Report.{blank}
@@ -11,7 +12,7 @@ use borrow.Author.Needs.{needs}
 use Rattle.report_text.proofs.accepted.put_job.Statement.{statement}
 use Rattle.report_text.proofs.accepted.put_job.Tie as tie
 
-few : (c : tie.Start) → length (now (c .args .proposed)) ≤ 1023
+few : (c : tie.Start) → length (now (c .args .proposed)) ≤ mostArcs
 few c = few-members _ _ (c .pre .0) (c .pre .1 .0)
 
 part-vertices-end : tie.Need-part-vertices-end
@@ -28,7 +29,7 @@ put-tree-requires c κs =
     let pre = c .before .before .before .before .before .pre in
     (pre .0, (pre .1 .0, omega (arith, pre .1 .1)))
 
-blanks : (c : tie.Start) → take {A = ℕ} (length (now (c .args .proposed)) - 0) (replicate 1023 0) ≡ blank (treeOf (now (c .args .parents)) (now (c .args .costs)))
+blanks : (c : tie.Start) → take {A = ℕ} (length (now (c .args .proposed)) - 0) (replicate mostArcs 0) ≡ blank (treeOf (now (c .args .parents)) (now (c .args .costs)))
 blanks c = zeros _ (few c) ∙ ap (λ (n : ℕ). replicate n 0) (c .pre .1 .0)
 
 put-splits-requires : tie.Need-put-splits-requires

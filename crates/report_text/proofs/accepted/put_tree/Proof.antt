@@ -1,4 +1,5 @@
 use native.Mathlib.Omega.{arith}
+use Rattle.limits.specs.Limits.{mostArcs}
 use Rattle.basics.proofs.Lists.{zeros-length}
 use Rattle.answers.proofs.Accepted.{tree-accepted}
 use Rattle.report_text.proofs.Found.{few-members}
@@ -13,7 +14,7 @@ part-needs-end c = omega (arith, tree-accepted _ (c .before .before .before .pre
 put-cost-requires : tie.Need-put-cost-requires
 put-cost-requires c κs =
     let start = c .before .before .before .before .before in
-    (start .pre .0, (zeros-length _ (tree-accepted _ (start .pre .0) .few), omega (arith, start .pre)))
+    (start .pre .0, (zeros-length mostArcs _ (tree-accepted _ (start .pre .0) .few), omega (arith, start .pre)))
 
 put-audit-requires : tie.Need-put-audit-requires
 put-audit-requires c κs =

@@ -4,6 +4,7 @@ use lib.ListN.{length, getD}
 use denote.Ref.{now}
 use native.Mathlib.Omega.{arith}
 use borrow.Author.Needs.{needs}
+use Rattle.limits.specs.Limits.{mostArcs}
 use Rattle.game.specs.Tree.{treeOf}
 use Rattle.search.proofs.Bound.{Proposed, tree-ok, proposal-length}
 use Rattle.search.proofs.ExcessPass.{Passing, excess, passing-start, passing-room, passing-place, passing-fits, passing-excess, passing-carry, passing-on, passing-end}
@@ -12,7 +13,7 @@ use Rattle.search.proofs.excess.find_excesses.Tie as tie
 
 abbrev Inv-loop : tie.InvT-loop
 Inv-loop parents costs proposal has-child₀ below₀ of₀ j₀ k₀ has-child below of j k =
-    Proposed (treeOf parents costs) proposal × (0 < k) × (k ≤ length parents + 1) × (length parents ≤ 1023) × Passing (treeOf parents costs) proposal has-child below of j (k - 1)
+    Proposed (treeOf parents costs) proposal × (0 < k) × (k ≤ length parents + 1) × (length parents ≤ mostArcs) × Passing (treeOf parents costs) proposal has-child below of j (k - 1)
 
 abbrev μ-loop : tie.MeasureT-loop
 μ-loop parents costs proposal has-child₀ below₀ of₀ j₀ k₀ has-child below of j k = k

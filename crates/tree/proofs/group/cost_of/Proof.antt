@@ -5,6 +5,7 @@ use lib.ListN.{length, getD}
 use denote.Ref.{now}
 use native.Mathlib.Omega.{arith}
 use borrow.Author.Needs.{needs}
+use Rattle.limits.specs.Limits.{mostArcs}
 use Rattle.game.specs.Tree.{treeOf}
 use Rattle.basics.specs.Bit.{bit}
 use Rattle.answers.proofs.Accepted.{Accepted, tree-accepted}
@@ -34,7 +35,7 @@ sub-j c =
     costing-room _ (c .before .before .before .before .before .args .t3) (at .inv .0) _ (at .k - 1 - 1) (omega arith) (omega arith) (at .inv .3) _ (c .one-if-member .ensures)
 
 -- a member number has a word
-few : (c : tie.After-one-if-member Inv-loop μ-loop) → c .before .before .loop .j ≤ 1023
+few : (c : tie.After-one-if-member Inv-loop μ-loop) → c .before .before .loop .j ≤ mostArcs
 few c = let at = c .before .before .loop in costing-few _ (c .before .before .before .before .before .args .t3) (at .inv .0) _ (at .k - 1 - 1) (omega arith) (omega arith) (at .inv .3)
 
 mul-bit-of : tie.Need-mul-bit-of Inv-loop μ-loop

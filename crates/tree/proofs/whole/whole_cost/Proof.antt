@@ -5,13 +5,14 @@ use denote.Ref.{now}
 use native.Mathlib.Numerals.{add-one}
 use native.Mathlib.Omega.{arith}
 use borrow.Author.Needs.{needs}
+use Rattle.limits.specs.Limits.{mostArcs}
 use Rattle.basics.specs.Sum.{sum}
 use Rattle.game.specs.Tree.{ofArc}
 use Rattle.tree.proofs.whole.whole_cost.Statement.{statement}
 use Rattle.tree.proofs.whole.whole_cost.Tie as tie
 
 abbrev Inv-loop : tie.InvT-loop
-Inv-loop costs total₀ i₀ total i = (i ≤ length costs) × (length costs ≤ 1023) × (total ≤ i * 4294967295) × (total ≡ sum i (ofArc costs))
+Inv-loop costs total₀ i₀ total i = (i ≤ length costs) × (length costs ≤ mostArcs) × (total ≤ i * 4294967295) × (total ≡ sum i (ofArc costs))
 
 abbrev μ-loop : tie.MeasureT-loop
 μ-loop costs total₀ i₀ total i = length costs - i

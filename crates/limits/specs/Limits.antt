@@ -1,0 +1,18 @@
+-- Document 01's limits.
+use Prim.Native.Nat.{ℕ}
+
+-- the most arcs of a tree, and so the most members
+abbrev pub mostArcs : ℕ
+mostArcs = 1023
+
+-- the bits of a group's sixteen words
+abbrev pub groupBits : ℕ
+groupBits = 1024
+
+-- the greatest cost of an arc
+abbrev pub mostCost : ℕ
+mostCost = 1000000000
+
+-- the greatest amount that a share, of either sign, or a cap can have
+abbrev pub mostShare : ℕ
+mostShare = 2000000000000
