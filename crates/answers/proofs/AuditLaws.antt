@@ -18,8 +18,8 @@ use Rattle.game.specs.Group.{byNumber, wordsOf}
 use Rattle.basics.specs.Sum.{size}
 use Rattle.game.specs.Proposal.{pays, overpayment, difference}
 use Rattle.game.specs.Search.{isIn, named}
-use Rattle.basics.proofs.Bools.{both, clash}
-use Rattle.basics.proofs.Sizes.{size-same}
+use Rattle.basics.proofs.Bools.{both, clash, same-test}
+use Rattle.basics.proofs.Sizes.{size-same, size-full}
 use Rattle.game.proofs.Encoding.{bit-of-words, bit-beyond}
 use Rattle.basics.proofs.Integers.{le-trans-ℤ, minus-le, le-minus, minus-is, is-minus}
 use Rattle.game.proofs.Overpayment.{overpayment-same}
@@ -167,9 +167,12 @@ module _ (t : Tree) (shares : List ℤ) (ok : auditCheck t shares ≡ accepted) 
       record {
         overpays = same-over ∙ o .0;
         above-zero = o .1;
-        counted = size-same (memberCount n) (theGroup t shares) theNamed same ∙ o .2;
+        counted = counted;
         none-more = λ g. subst (λ (x : ℤ). overpayment n shares g ≤ℤ x) (o .0) (most g);
         part-of-all = part;
+        fewest = λ g f. omega (arith, o .2, named-good n shares g .fewest (as-much g f));
+        only-one = only;
+        none-beyond = none-beyond;
       }
     where
       o : (overpayment n shares theNamed ≡ pos amount) × (0 < amount) × (size (memberCount n) theNamed ≡ members)
@@ -187,19 +190,36 @@ module _ (t : Tree) (shares : List ℤ) (ok : auditCheck t shares ≡ accepted) 
       same-over : overpayment n shares (theGroup t shares) ≡ overpayment n shares theNamed
       same-over = overpayment-same n shares (theGroup t shares) theNamed same
 
+      counted : size (memberCount n) (theGroup t shares) ≡ members
+      counted = size-same (memberCount n) (theGroup t shares) theNamed same ∙ o .2
+
+      none-beyond : (j : ℕ) → memberCount n ≤ j → theGroup t shares j ≡ false
+      none-beyond j h =
+          elim (decLt j 1024) [
+            | yes l ↦ named-at j l ∙ named-ends n shares j h
+            | no l ↦ ap (λ (w : List ℕ). bit w j) words ∙ bit-beyond theNamed j (omega arith)
+          ]
+
+      as-much : (g : ℕ → Bool)
+          → overpayment n shares g ≡ pos amount
+          → overpayment n shares theNamed ≤ℤ overpayment n shares g
+      as-much g f = rw (o .0 ∙ sym f) (≤ℤ-refl (overpayment n shares g))
+
       part : (g : ℕ → Bool) → overpayment n shares g ≡ pos amount → (j : ℕ) → theGroup t shares j ≡ true → g j ≡ true
       part g f j b =
           elim (decLt j (memberCount n)) [
-            | yes h ↦ named-part n shares g (subst (λ (x : ℤ). overpayment n shares theNamed ≤ℤ x) (o .0 ∙ sym f) (≤ℤ-refl (overpayment n shares theNamed))) j h (sym (same j h) ∙ b)
+            | yes h ↦ named-part n shares g (as-much g f) j h (sym (same j h) ∙ b)
             | no h ↦ absurd (clash b (none-beyond j (omega arith)))
           ]
-        where
-          none-beyond : (j : ℕ) → memberCount n ≤ j → theGroup t shares j ≡ false
-          none-beyond j h =
-              elim (decLt j 1024) [
-                | yes l ↦ named-at j l ∙ named-ends n shares j h
-                | no l ↦ ap (λ (w : List ℕ). bit w j) words ∙ bit-beyond theNamed j (omega arith)
-              ]
+
+      only : (g : ℕ → Bool)
+          → overpayment n shares g ≡ pos amount
+          → size (memberCount n) g ≤ members
+          → (j : ℕ) → j < memberCount n → g j ≡ theGroup t shares j
+      only g f no-more j h =
+          same-test (g j) (theGroup t shares j)
+          (size-full (memberCount n) (theGroup t shares) g (λ i l. part g f i) (omega (arith, counted)) j h)
+          (part g f j)
 
   objects-then : ((amount : ℕ) × (members : ℕ) × (auditAnswer t shares ≡ value (objection amount members)))
       → (difference n shares ≡ pos 0) × (g : ℕ → Bool) × (overpayment n shares g ≤ℤ pos 0 → ⊥)

@@ -1,7 +1,7 @@
 -- What is proved of the audit's answers on every accepted tree and proposal. A group is any set of member numbers.
-use Prim.Native.Nat.{ℕ, _<_}
+use Prim.Native.Nat.{ℕ, _≤_, _<_}
 use mathlib.Core.Path.{_≡_}
-use mathlib.Core.Bool.{Bool, true}
+use mathlib.Core.Bool.{Bool, true, false}
 use mathlib.Core.Logic.{_↔_}
 use mathlib.Core.List.{List}
 use lib.IntN.{ℤ, pos}
@@ -28,6 +28,16 @@ pub record ObjectionLaws (t : Tree) (shares : List ℤ) (amount members : ℕ) :
   pub none-more : (g : ℕ → Bool) → overpayment (network t) shares g ≤ℤ pos amount
   -- every group that overpays as much has every member of the named one
   pub part-of-all : (g : ℕ → Bool) → overpayment (network t) shares g ≡ pos amount → PartOf (theGroup t shares) g
+  -- it has at least as many members, and where it has no more it is the named one, member by member
+  pub fewest : (g : ℕ → Bool)
+      → overpayment (network t) shares g ≡ pos amount
+      → members ≤ size (memberCount (network t)) g
+  pub only-one : (g : ℕ → Bool)
+      → overpayment (network t) shares g ≡ pos amount
+      → size (memberCount (network t)) g ≤ members
+      → (j : ℕ) → j < memberCount (network t) → g j ≡ theGroup t shares j
+  -- the words name no number at or beyond the number of members
+  pub none-beyond : (j : ℕ) → memberCount (network t) ≤ j → theGroup t shares j ≡ false
 
 pub record AuditLaws (t : Tree) (shares : List ℤ) : Type 0 where
   -- pass, exactly when the proposal adds up to the whole cost and no group pays more than its own network costs
