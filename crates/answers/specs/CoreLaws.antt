@@ -1,5 +1,5 @@
 -- What is proved of the core and of the bounds on every accepted tree, for every list of whole shares, of any size and either sign.
-use Prim.Native.Nat.{ℕ, _<_}
+use Prim.Native.Nat.{ℕ, _+_, _<_}
 use mathlib.Core.Path.{_≡_}
 use mathlib.Core.Bool.{true, false}
 use mathlib.Core.Logic.{_⊎_, _↔_}
@@ -21,12 +21,29 @@ pub record OtherUser (t : Tree) (k : ℕ) : Type 0 where
   pub uses-parent : user (network t) (ofArc (t .parents) k) who ≡ true
   pub not-below : atOrBelow (network t) k who ≡ false
 
+-- arc k is the top of an unbranched run: it leaves the source, or its parent has another user
+abbrev pub RunTop : Tree → ℕ → Type 0
+RunTop t k = (ofArc (t .parents) k ≡ 0) ⊎ OtherUser t k
+
+-- arc k is lower in the run, with p for its parent: p is an arc, and every user of p uses k
+pub record LowerInRun (t : Tree) (p k : ℕ) : Type 0 where
+  pub is-arc : ArcOf t k
+  pub parent : ofArc (t .parents) k ≡ p
+  pub not-top : RunTop t k → ⊥
+
 pub record CoreLaws (t : Tree) : Type 0 where
   -- the source's bound is the sum of the costs of the arcs that only the arc's users use
   pub bound-is-only-theirs : (k : ℕ) → ArcOf t k → bound (network t) k ≡ pos (onlyTheirs (network t) k)
-  -- the need is never above it, and equals it where the arc leaves the source or its parent has another user
+  -- the need is never above it, and equals it at the top of an unbranched run
   pub need-at-most-bound : (k : ℕ) → ArcOf t k → pos (need (network t) k) ≤ℤ bound (network t) k
-  pub need-is-bound : (k : ℕ) → ArcOf t k → (ofArc (t .parents) k ≡ 0) ⊎ OtherUser t k → pos (need (network t) k) ≡ bound (network t) k
+  pub need-is-bound : (k : ℕ) → ArcOf t k → RunTop t k → pos (need (network t) k) ≡ bound (network t) k
+  -- lower in the run the bound is the parent's, and the need is less than the parent's by the parent's cost
+  pub run-same-bound : (p k : ℕ) → LowerInRun t p k → bound (network t) k ≡ bound (network t) p
+  pub run-parent-need : (p k : ℕ) → LowerInRun t p k → need (network t) p ≡ ofArc (t .costs) p + need (network t) k
+  -- so it equals the bound exactly where the parent's cost is 0 and the parent's need is the parent's bound
+  pub run-need-is-bound : (p k : ℕ) → LowerInRun t p k
+      → (pos (need (network t) k) ≡ bound (network t) k)
+      ↔ ((ofArc (t .costs) p ≡ 0) × (pos (need (network t) p) ≡ bound (network t) p))
   -- Theorem 2 of the source: the core over all groups is described by the bounds of the arcs
   pub core-by-bound : (shares : List ℤ) → Core (network t) shares ↔ CoreByBound (network t) shares
   -- and by their needs

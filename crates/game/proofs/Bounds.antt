@@ -24,6 +24,19 @@ pub record OtherUser (n : Network) (k : ℕ) : Type 0 where
   pub uses-parent : user n (n .parent k) who ≡ true
   pub not-below : atOrBelow n k who ≡ false
 
+-- an arc that nobody uses costs nothing
+abbrev pub UnusedFree : Network → Type 0
+UnusedFree n = (e : ℕ) → In (n .arcs) e → used n everyone e ≡ false → n .cost e ≡ 0
+
+-- so two tests that agree on a used arc pick the same of its cost
+pub used-pick : (n : Network) → UnusedFree n → (e : ℕ) → In (n .arcs) e
+    → (a b : Bool) → (used n everyone e ≡ true → a ≡ b) → pick a (n .cost e) ≡ pick b (n .cost e)
+used-pick n unused-free e i a b agree =
+    ⊎-elim
+    (λ (by : used n everyone e ≡ true). ap (λ (c : Bool). pick c (n .cost e)) (agree by))
+    (λ (by : used n everyone e ≡ false). rw (unused-free e i by) (pick-zero a ∙ sym (pick-zero b)))
+    (both (used n everyone e))
+
 module _ (n : Network) where
   -- the users of an arc by member number are the members at or below it
   pub users-at : (k v : ℕ) → In (n .arcs) v → n .member v ≡ true → users n k (number n v) ≡ atOrBelow n k v
@@ -51,7 +64,7 @@ module _ (n : Network) (rooted : Rooted n) where
           let h′ = below-trans n rooted k e (b .by) h (and-second (n .member (b .by)) (atOrBelow n e (b .by)) (b .uses)) in
           clash (b .chosen) (ap not (users-at n k (b .by) (b .within) m ∙ h′))
 
-  need-le-only : (k : ℕ) → need n k ≤ onlyTheirs n k
+  pub need-le-only : (k : ℕ) → need n k ≤ onlyTheirs n k
   unfolding sumBelow onlyTheirs
   need-le-only k =
       sum-mono (n .arcs)
@@ -63,7 +76,7 @@ module _ (n : Network) (rooted : Rooted n) where
       (less-le (pos (need n k)) (pos (onlyTheirs n k)) (less-parts (pos (need n k))) (less-parts (pos (onlyTheirs n k))) (omega (arith, need-le-only k)))
 
   -- an arc above k other than k is above k's parent
-  above-parent : (e k : ℕ) → In (n .arcs) k → atOrBelow n e k ≡ true → atOrBelow n k e ≡ false → atOrBelow n e (n .parent k) ≡ true
+  pub above-parent : (e k : ℕ) → In (n .arcs) k → atOrBelow n e k ≡ true → atOrBelow n k e ≡ false → atOrBelow n e (n .parent k) ≡ true
   above-parent e zero i h out = absurd (omega arith)
   above-parent e (suc k) i h out =
       ⊎-elim
@@ -71,7 +84,7 @@ module _ (n : Network) (rooted : Rooted n) where
       (λ (h′ : atOrBelow n e (n .parent (suc k)) ≡ true). h′)
       (below-cases n rooted e k h)
 
-  module _ (unused-free : (e : ℕ) → In (n .arcs) e → used n everyone e ≡ false → n .cost e ≡ 0) (k : ℕ) (arc : IsArc n k) (free : (n .parent k ≡ 0) ⊎ OtherUser n k) where
+  module _ (unused-free : UnusedFree n) (k : ℕ) (arc : IsArc n k) (free : (n .parent k ≡ 0) ⊎ OtherUser n k) where
     -- a user of an arc that does not use k
     others-by : (e v : ℕ) → In (n .arcs) v → user n e v ≡ true → atOrBelow n k v ≡ false → used n (byNumber n (others n k)) e ≡ true
     others-by e v i u out =
@@ -123,15 +136,7 @@ module _ (n : Network) (rooted : Rooted n) where
     unfolding sumBelow onlyTheirs
     need-is-only =
         sum-cong (n .arcs)
-        (λ e i.
-        ⊎-elim
-        (λ (by : used n everyone e ≡ true). ap (λ (b : Bool). pick b (n .cost e)) (only-at e i by))
-        (λ (by : used n everyone e ≡ false).
-        let z = unused-free e i by in
-        ap (pick (atOrBelow n k e)) z
-        ∙ pick-zero (atOrBelow n k e)
-        ∙ sym (ap (pick (not (used n (byNumber n (others n k)) e))) z ∙ pick-zero (not (used n (byNumber n (others n k)) e))))
-        (both (used n everyone e)))
+        (λ e i. used-pick n unused-free e i (atOrBelow n k e) (not (used n (byNumber n (others n k)) e)) (only-at e i))
 
     pub need-is-bound : pos (need n k) ≡ bound n k
     need-is-bound = ap pos need-is-only ∙ sym (bound-is-only-theirs n k)

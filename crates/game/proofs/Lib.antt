@@ -14,6 +14,7 @@ pub mod ActiveGroup
 pub mod Encoding
 pub mod ExcessOf
 pub mod Bounds
+pub mod Runs
 pub mod Core
 pub mod Bump
 mod Smallest
