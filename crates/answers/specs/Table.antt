@@ -29,12 +29,16 @@ W = record { parents = 0 ∷ 1 ∷ 1 ∷ 0 ∷ []; costs = 10 ∷ 1 ∷ 1 ∷ 8 
 abbrev pub group : ℕ → List ℕ
 group w = w ∷ replicate 15 0
 
+-- a lent list of n entries, all of them 77, which no row answers
+abbrev pub lent : ℕ → List ℕ
+lent n = replicate n 77
+
 pub record Table : Type 0 where
   pub T-members : memberCountAnswer T ≡ value 3
-  pub T-vertices : membersAnswer T (9 ∷ 9 ∷ 9 ∷ []) ≡ value 3
-  pub T-vertices-list : membersList T (9 ∷ 9 ∷ 9 ∷ []) ≡ 2 ∷ 3 ∷ 4 ∷ []
-  pub T-needs : needsAnswer T (9 ∷ 9 ∷ 9 ∷ 9 ∷ []) ≡ value (record { whole = 16; members = 3 })
-  pub T-needs-list : needsList T (9 ∷ 9 ∷ 9 ∷ 9 ∷ []) ≡ 12 ∷ 1 ∷ 5 ∷ 4 ∷ []
+  pub T-vertices : membersAnswer T (lent 3) ≡ value 3
+  pub T-vertices-list : membersList T (lent 3) ≡ 2 ∷ 3 ∷ 4 ∷ []
+  pub T-needs : needsAnswer T (lent 4) ≡ value (record { whole = 16; members = 3 })
+  pub T-needs-list : needsList T (lent 4) ≡ 12 ∷ 1 ∷ 5 ∷ 4 ∷ []
   pub T-cost-of-none : groupCostAnswer T (group 0) ≡ value (record { size = 0; cost = 0 })
   pub T-cost-of-0 : groupCostAnswer T (group 1) ≡ value (record { size = 1; cost = 7 })
   pub T-cost-of-0-1 : groupCostAnswer T (group 3) ≡ value (record { size = 2; cost = 12 })
@@ -49,18 +53,18 @@ pub record Table : Type 0 where
   pub T-less-1-13-4-words : auditWords T (negsuc 0 ∷ pos 13 ∷ pos 4 ∷ []) ≡ group 2
   pub W-7-7-6 : auditAnswer W (pos 7 ∷ pos 7 ∷ pos 6 ∷ []) ≡ value (objection 2 2)
   pub W-7-7-6-words : auditWords W (pos 7 ∷ pos 7 ∷ pos 6 ∷ []) ≡ group 3
-  pub T-level-100 : levelAnswer T (100 ∷ 100 ∷ 100 ∷ []) (9 ∷ 9 ∷ 9 ∷ []) ≡ split 3
-  pub T-level-100-list : levelList T (100 ∷ 100 ∷ 100 ∷ []) (9 ∷ 9 ∷ 9 ∷ []) ≡ 6 ∷ 6 ∷ 4 ∷ []
-  pub T-level-3-9-4 : levelAnswer T (3 ∷ 9 ∷ 4 ∷ []) (9 ∷ 9 ∷ 9 ∷ []) ≡ split 3
-  pub T-level-3-9-4-list : levelList T (3 ∷ 9 ∷ 4 ∷ []) (9 ∷ 9 ∷ 9 ∷ []) ≡ 3 ∷ 9 ∷ 4 ∷ []
-  pub T-level-3-8-100 : levelAnswer T (3 ∷ 8 ∷ 100 ∷ []) (9 ∷ 9 ∷ 9 ∷ []) ≡ refusal 9 1 1
-  pub T-level-3-8-100-list : levelList T (3 ∷ 8 ∷ 100 ∷ []) (9 ∷ 9 ∷ 9 ∷ []) ≡ 9 ∷ 9 ∷ 9 ∷ []
-  pub U-level-3-100 : levelAnswer U (3 ∷ 100 ∷ []) (9 ∷ 9 ∷ []) ≡ split 2
-  pub U-level-3-100-list : levelList U (3 ∷ 100 ∷ []) (9 ∷ 9 ∷ []) ≡ 3 ∷ 4 ∷ []
-  pub T-by-arc : byArcAnswer T (9 ∷ 9 ∷ 9 ∷ []) ≡ value 3
-  pub T-by-arc-list : byArcList T (9 ∷ 9 ∷ 9 ∷ []) ≡ 4 ∷ 8 ∷ 4 ∷ []
-  pub U-by-arc : byArcAnswer U (9 ∷ 9 ∷ []) ≡ value 2
-  pub U-by-arc-list : byArcList U (9 ∷ 9 ∷ []) ≡ 4 ∷ 3 ∷ []
+  pub T-level-100 : levelAnswer T (100 ∷ 100 ∷ 100 ∷ []) (lent 3) ≡ split 3
+  pub T-level-100-list : levelList T (100 ∷ 100 ∷ 100 ∷ []) (lent 3) ≡ 6 ∷ 6 ∷ 4 ∷ []
+  pub T-level-3-9-4 : levelAnswer T (3 ∷ 9 ∷ 4 ∷ []) (lent 3) ≡ split 3
+  pub T-level-3-9-4-list : levelList T (3 ∷ 9 ∷ 4 ∷ []) (lent 3) ≡ 3 ∷ 9 ∷ 4 ∷ []
+  pub T-level-3-8-100 : levelAnswer T (3 ∷ 8 ∷ 100 ∷ []) (lent 3) ≡ refusal 9 1 1
+  pub T-level-3-8-100-list : levelList T (3 ∷ 8 ∷ 100 ∷ []) (lent 3) ≡ lent 3
+  pub U-level-3-100 : levelAnswer U (3 ∷ 100 ∷ []) (lent 2) ≡ split 2
+  pub U-level-3-100-list : levelList U (3 ∷ 100 ∷ []) (lent 2) ≡ 3 ∷ 4 ∷ []
+  pub T-by-arc : byArcAnswer T (lent 3) ≡ value 3
+  pub T-by-arc-list : byArcList T (lent 3) ≡ 4 ∷ 8 ∷ 4 ∷ []
+  pub U-by-arc : byArcAnswer U (lent 2) ≡ value 2
+  pub U-by-arc-list : byArcList U (lent 2) ≡ 4 ∷ 3 ∷ []
   -- beyond document 01's rows: every arc is short, and a rest of 1 between two users
-  pub T-level-0 : levelAnswer T (0 ∷ 0 ∷ 0 ∷ []) (9 ∷ 9 ∷ 9 ∷ []) ≡ refusal 9 4 4
-  pub U-level-100-list : levelList U (100 ∷ 100 ∷ []) (9 ∷ 9 ∷ []) ≡ 4 ∷ 3 ∷ []
+  pub T-level-0 : levelAnswer T (0 ∷ 0 ∷ 0 ∷ []) (lent 3) ≡ refusal 9 4 4
+  pub U-level-100-list : levelList U (100 ∷ 100 ∷ []) (lent 2) ≡ 4 ∷ 3 ∷ []

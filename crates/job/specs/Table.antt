@@ -42,26 +42,26 @@ fewer-job = T-arcs ++ memberRow 100 8 0 ++ memberRow 100 4 0 ++ trailer 0 32 4 2
 abbrev pub outside-job : List ℕ
 outside-job = T-arcs ++ memberRow 100 8 0 ++ memberRow 100 4 0 ++ memberRow 100 4 127 ++ trailer 0 32 4 3
 
--- lists with n entries, all of them 9
-abbrev pub nines : ℕ → Lent
-nines n = lent (replicate n 9) (replicate n 9) (replicate n 9) (replicate n (pos 9))
+-- lent lists of n entries, all of them 77, which no job holds
+abbrev pub lists : ℕ → Lent
+lists n = lent (replicate n 77) (replicate n 77) (replicate n 77) (replicate n (pos 77))
 
 pub record JobTable : Type 0 where
   pub T-size : length T-job ≡ 96
-  pub T-read : jobAnswer T-job (nines 1023) ≡ value (record { arcs = 4; members = 3; note = 0 })
+  pub T-read : jobAnswer T-job (lists 1023) ≡ value (record { arcs = 4; members = 3; note = 0 })
   pub T-lists :
-      jobLists T-job (nines 1023)
+      jobLists T-job (lists 1023)
       ≡ lent
-      ((0 ∷ 1 ∷ 1 ∷ 0 ∷ []) ++ replicate 1019 9)
-      ((6 ∷ 1 ∷ 5 ∷ 4 ∷ []) ++ replicate 1019 9)
-      ((100 ∷ 100 ∷ 100 ∷ []) ++ replicate 1020 9)
-      ((pos 8 ∷ pos 4 ∷ pos 4 ∷ []) ++ replicate 1020 (pos 9))
-  pub noted-read : jobAnswer noted-job (nines 1023) ≡ value (record { arcs = 4; members = 3; note = 2 })
-  pub noted-proposals : jobLists noted-job (nines 1023) .proposals ≡ (negsuc 0 ∷ pos 13 ∷ pos 4 ∷ []) ++ replicate 1020 (pos 9)
+      ((0 ∷ 1 ∷ 1 ∷ 0 ∷ []) ++ replicate 1019 77)
+      ((6 ∷ 1 ∷ 5 ∷ 4 ∷ []) ++ replicate 1019 77)
+      ((100 ∷ 100 ∷ 100 ∷ []) ++ replicate 1020 77)
+      ((pos 8 ∷ pos 4 ∷ pos 4 ∷ []) ++ replicate 1020 (pos 77))
+  pub noted-read : jobAnswer noted-job (lists 1023) ≡ value (record { arcs = 4; members = 3; note = 2 })
+  pub noted-proposals : jobLists noted-job (lists 1023) .proposals ≡ (negsuc 0 ∷ pos 13 ∷ pos 4 ∷ []) ++ replicate 1020 (pos 77)
   -- 10 before all others, 14 before 3, 1 where there are no arcs, 15, 7 on proposals
-  pub short-list : jobAnswer T-job (nines 1022) ≡ refusal 10 0
-  pub filler-first : jobAnswer filled-job (nines 1023) ≡ refusal 14 2
-  pub no-arcs : jobAnswer (trailer 0 0 0 0) (nines 1023) ≡ refusal 1 0
-  pub fewer-members : jobAnswer fewer-job (nines 1023) ≡ refusal 15 0
-  pub outside-last : jobAnswer outside-job (nines 1023) ≡ refusal 7 2
-  pub outside-lists : jobLists outside-job (nines 1023) ≡ nines 1023
+  pub short-list : jobAnswer T-job (lists 1022) ≡ refusal 10 0
+  pub filler-first : jobAnswer filled-job (lists 1023) ≡ refusal 14 2
+  pub no-arcs : jobAnswer (trailer 0 0 0 0) (lists 1023) ≡ refusal 1 0
+  pub fewer-members : jobAnswer fewer-job (lists 1023) ≡ refusal 15 0
+  pub outside-last : jobAnswer outside-job (lists 1023) ≡ refusal 7 2
+  pub outside-lists : jobLists outside-job (lists 1023) ≡ lists 1023
