@@ -1,22 +1,33 @@
 -- Examples of jobs, as one statement about the reader's answers and lists.
-use Prim.Native.Nat.{ℕ}
+use Prim.Native.Nat.{ℕ, zero, suc, _-_, _/_, _%_, _^_}
 use mathlib.Core.Path.{_≡_}
 use mathlib.Core.List.{List, [], _∷_, _++_}
-use lib.ListN.{length, replicate}
+use lib.ListN.{length, take, replicate}
 use lib.IntN.{pos, negsuc}
-use Rattle.answer_forms.specs.Answer.{value, refusal}
+use Rattle.answer_forms.specs.Answer.{value, refusal, refused}
+use Rattle.job.specs.JobCheck.{valuesCheck}
 use Rattle.job.specs.Reader.{Lent, lent, jobAnswer, jobLists}
 
--- a row and a trailer of small numbers; `sign` fills a proposal's upper bytes
+-- a number in this many bytes, the least significant first
+abbrev pub inBytes : ℕ → ℕ → List ℕ
+inBytes zero x = []
+inBytes (suc width) x = x % 256 ∷ inBytes width (x / 256)
+
+-- the rows and the trailer; a proposal is given by its 64 bits
 abbrev pub arcRow : ℕ → ℕ → ℕ → List ℕ
-arcRow parent filler cost = parent ∷ 0 ∷ filler ∷ 0 ∷ cost ∷ 0 ∷ 0 ∷ 0 ∷ []
+arcRow parent filler cost = inBytes 2 parent ++ inBytes 2 filler ++ inBytes 4 cost
 
-abbrev pub memberRow : ℕ → ℕ → ℕ → List ℕ
-memberRow cap proposal sign = (cap ∷ replicate 7 0) ++ (proposal ∷ replicate 7 sign)
+abbrev pub memberRow : ℕ → ℕ → List ℕ
+memberRow cap proposal = inBytes 8 cap ++ inBytes 8 proposal
 
-abbrev pub trailer : ℕ → ℕ → ℕ → ℕ → List ℕ
-trailer arcs-at members-at arcs members =
-    arcs-at ∷ 0 ∷ 0 ∷ 0 ∷ members-at ∷ 0 ∷ 0 ∷ 0 ∷ arcs ∷ 0 ∷ members ∷ 0 ∷ 1 ∷ 0 ∷ 84 ∷ 74 ∷ []
+abbrev pub trailer : ℕ → ℕ → ℕ → ℕ → ℕ → List ℕ
+trailer arcs-at members-at arcs members version =
+    inBytes 4 arcs-at
+    ++ inBytes 4 members-at
+    ++ inBytes 2 arcs
+    ++ inBytes 2 members
+    ++ inBytes 2 version
+    ++ (84 ∷ 74 ∷ [])
 
 -- document 01's tree T
 abbrev pub T-arcs : List ℕ
@@ -24,27 +35,51 @@ T-arcs = arcRow 0 0 6 ++ arcRow 1 0 1 ++ arcRow 1 0 5 ++ arcRow 0 0 4
 
 -- T with no note, caps 100 and the proposal 8 4 4
 abbrev pub T-job : List ℕ
-T-job = T-arcs ++ memberRow 100 8 0 ++ memberRow 100 4 0 ++ memberRow 100 4 0 ++ trailer 0 32 4 3
+T-job = T-arcs ++ memberRow 100 8 ++ memberRow 100 4 ++ memberRow 100 4 ++ trailer 0 32 4 3 1
 
 -- T with a note of two bytes and the proposal -1 13 4
 abbrev pub noted-job : List ℕ
-noted-job = (7 ∷ 9 ∷ []) ++ T-arcs ++ memberRow 100 255 255 ++ memberRow 100 13 0 ++ memberRow 100 4 0 ++ trailer 2 34 4 3
-
--- arc 1 has itself for a parent, and arc 2 a filler
-abbrev pub filled-job : List ℕ
-filled-job = arcRow 1 0 6 ++ arcRow 1 3 1 ++ memberRow 100 8 0 ++ trailer 0 16 2 1
+noted-job =
+    (7 ∷ 9 ∷ []) ++ T-arcs ++ memberRow 100 (2 ^ 64 - 1) ++ memberRow 100 13 ++ memberRow 100 4 ++ trailer 2 34 4 3 1
 
 -- T with one member row less
 abbrev pub fewer-job : List ℕ
-fewer-job = T-arcs ++ memberRow 100 8 0 ++ memberRow 100 4 0 ++ trailer 0 32 4 2
+fewer-job = T-arcs ++ memberRow 100 8 ++ memberRow 100 4 ++ trailer 0 32 4 2 1
 
--- T with a last proposal that is outside its range
-abbrev pub outside-job : List ℕ
-outside-job = T-arcs ++ memberRow 100 8 0 ++ memberRow 100 4 0 ++ memberRow 100 4 127 ++ trailer 0 32 4 3
+-- one above the greatest cost, and one above the greatest cap and share
+abbrev pub costAbove : ℕ
+costAbove = 1000000001
+
+abbrev pub shareAbove : ℕ
+shareAbove = 2000000000001
+
+-- a job of two arcs and two members. Its arguments, in the order in which they are checked: the version, the offset of
+-- the member rows, arc 2's filler, arc 1's parent and cost, arc 2's parent (1 makes arc 2's vertex the only member),
+-- member 1's cap, member 0's proposal
+abbrev pub order-job : (version members-at filler₂ parent₁ cost₁ parent₂ cap₁ proposal₀ : ℕ) → List ℕ
+order-job version members-at filler₂ parent₁ cost₁ parent₂ cap₁ proposal₀ =
+    arcRow parent₁ 0 cost₁
+    ++ arcRow parent₂ filler₂ 1
+    ++ memberRow 100 proposal₀
+    ++ memberRow cap₁ 1
+    ++ trailer 0 members-at 2 2 version
+
+-- the same with each of them at fault
+abbrev pub worst-job : List ℕ
+worst-job = order-job 2 17 1 1 costAbove 2 shareAbove shareAbove
+
+-- 1,024 arc rows and no member row: arc 1 has itself for a parent, this filler and a cost above its limit, all else in
+-- the rows is 0
+abbrev pub many-job : (filler₁ : ℕ) → List ℕ
+many-job filler₁ = arcRow 1 filler₁ costAbove ++ replicate 8184 0 ++ trailer 0 8192 1024 0 1
 
 -- lent lists of n entries, all of them 77, which no job holds
 abbrev pub lists : ℕ → Lent
 lists n = lent (replicate n 77) (replicate n 77) (replicate n 77) (replicate n (pos 77))
+
+-- the job is refused with this number and place, and nothing is written to the lists
+abbrev pub Refuses : List ℕ → Lent → ℕ → ℕ → Type 0
+Refuses bytes l number place = (jobAnswer bytes l ≡ refusal number place) × (jobLists bytes l ≡ l)
 
 pub record JobTable : Type 0 where
   pub T-size : length T-job ≡ 96
@@ -57,11 +92,26 @@ pub record JobTable : Type 0 where
       ((100 ∷ 100 ∷ 100 ∷ []) ++ replicate 1020 77)
       ((pos 8 ∷ pos 4 ∷ pos 4 ∷ []) ++ replicate 1020 (pos 77))
   pub noted-read : jobAnswer noted-job (lists 1023) ≡ value (record { arcs = 4; members = 3; note = 2 })
-  pub noted-proposals : jobLists noted-job (lists 1023) .proposals ≡ (negsuc 0 ∷ pos 13 ∷ pos 4 ∷ []) ++ replicate 1020 (pos 77)
-  -- 10 before all others, 14 before 3, 1 where there are no arcs, 15, 7 on proposals
-  pub short-list : jobAnswer T-job (lists 1022) ≡ refusal 10 0
-  pub filler-first : jobAnswer filled-job (lists 1023) ≡ refusal 14 2
-  pub no-arcs : jobAnswer (trailer 0 0 0 0) (lists 1023) ≡ refusal 1 0
-  pub fewer-members : jobAnswer fewer-job (lists 1023) ≡ refusal 15 0
-  pub outside-last : jobAnswer outside-job (lists 1023) ≡ refusal 7 2
-  pub outside-lists : jobLists outside-job (lists 1023) ≡ lists 1023
+  pub noted-proposals :
+      jobLists noted-job (lists 1023) .proposals ≡ (negsuc 0 ∷ pos 13 ∷ pos 4 ∷ []) ++ replicate 1020 (pos 77)
+  pub fewer-members : Refuses fewer-job (lists 1023) 15 0
+  -- the order of the checks: later faults stand beside the one that is found, which the row of the next number mends
+  pub order-10 : Refuses (take 15 worst-job) (lists 1022) 10 0
+  pub order-11-short : Refuses (take 15 worst-job) (lists 1023) 11 0
+  pub order-11-long : Refuses (replicate 24760 0 ++ worst-job) (lists 1023) 11 0
+  pub order-12 : Refuses worst-job (lists 1023) 12 0
+  pub order-13 : Refuses (order-job 1 17 1 1 costAbove 2 shareAbove shareAbove) (lists 1023) 13 0
+  pub order-14 : Refuses (order-job 1 16 1 1 costAbove 2 shareAbove shareAbove) (lists 1023) 14 2
+  pub order-3 : Refuses (order-job 1 16 0 1 costAbove 2 shareAbove shareAbove) (lists 1023) 3 1
+  pub order-4 : Refuses (order-job 1 16 0 0 costAbove 2 shareAbove shareAbove) (lists 1023) 4 1
+  pub order-3-next : Refuses (order-job 1 16 0 0 6 2 shareAbove shareAbove) (lists 1023) 3 2
+  pub order-15 : Refuses (order-job 1 16 0 0 6 1 shareAbove shareAbove) (lists 1023) 15 0
+  pub order-7-caps : Refuses (order-job 1 16 0 0 6 0 shareAbove shareAbove) (lists 1023) 7 1
+  pub order-7-proposals : Refuses (order-job 1 16 0 0 6 0 100 shareAbove) (lists 1023) 7 0
+  pub order-read :
+      jobAnswer (order-job 1 16 0 0 6 0 100 8) (lists 1023) ≡ value (record { arcs = 2; members = 2; note = 0 })
+  -- 1 after 14, and before 3, 4 and 15: the latter by the checks of the values alone, as 1,024 fillers compute slowly
+  pub many-14 : Refuses (many-job 1) (lists 1023) 14 1
+  pub many-1 : valuesCheck (many-job 0) ≡ refused 1 0
+  -- 1 where there are no arcs, before 15
+  pub none-1 : Refuses (memberRow 100 8 ++ trailer 0 0 0 1 1) (lists 1023) 1 0
