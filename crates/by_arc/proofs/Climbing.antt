@@ -11,7 +11,7 @@ use lib.Seq.{getD-set-same, getD-set-other}
 use lib.Dec.{eqb, ltb}
 use Rattle.basics.specs.Sum.{pick}
 use Rattle.game.specs.Network.{Network, atOrBelow}
-use Rattle.game.specs.Tree.{treeOf, network, ofArc}
+use Rattle.game.specs.Tree.{networkOf, ofArc}
 use Rattle.basics.proofs.Bools.{eqb-comm, pick-yes, pick-no, pick-le}
 use Rattle.basics.proofs.Sums.{sum-cong, sum-add, sum-zero, sum-at, sum-bound}
 use Rattle.game.proofs.Below.{Rooted, below-source, below-pick}
@@ -46,7 +46,7 @@ module _ (n : Network) (rooted : Rooted n) where
 
 module _ (ps each more₀ : List ℕ) (v : ℕ) where
   abbrev n : Network
-  n = network (treeOf ps [])
+  n = networkOf ps []
 
   -- what arc k gives
   abbrev gives : ℕ → ℕ

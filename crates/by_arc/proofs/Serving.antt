@@ -7,7 +7,7 @@ use native.Mathlib.Omega.{arith}
 use lib.ListN.{length, getD, set}
 use Rattle.basics.specs.Sum.{pick, list}
 use Rattle.game.specs.Network.{Network, atOrBelow, members}
-use Rattle.game.specs.Tree.{treeOf, network, ofArc}
+use Rattle.game.specs.Tree.{networkOf, ofArc}
 use Rattle.game.specs.Core.{users}
 use Rattle.basics.proofs.Sums.{In, sum-cong}
 use Rattle.basics.proofs.Sizes.{size-more, size-none}
@@ -18,7 +18,7 @@ use Rattle.by_arc.specs.Parts.{Parts, given, sumAbove, oneLess, left, de
 
 module _ (ps each more₀ shares₀ : List ℕ) where
   abbrev n : Network
-  n = network (treeOf ps [])
+  n = networkOf ps []
 
   -- the members below j have their shares
   pub record Serving (more shares : List ℕ) (j : ℕ) : Type 0 where

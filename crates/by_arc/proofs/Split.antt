@@ -7,7 +7,7 @@ use native.Mathlib.Omega.{arith}
 use lib.ListN.{length, getD}
 use Rattle.basics.specs.Sum.{pick, list, size}
 use Rattle.game.specs.Network.{Network, memberCount}
-use Rattle.game.specs.Tree.{Tree, treeOf, network, ofArc}
+use Rattle.game.specs.Tree.{Tree, network, networkOf, ofArc}
 use Rattle.game.specs.Core.{users}
 use Rattle.game.specs.ByArc.{userCount, byArc}
 use Rattle.basics.proofs.Sums.{In, sum-cong}
@@ -48,12 +48,12 @@ module _ (t : Tree) (ok : Accepted t) where
           }
 
       -- the dealing does not look at the costs
-      pub split-is : {m : ℕ} → m ≡ memberCount n → list m (λ i. dealt (network (treeOf (t .parents) [])) each more (pred i)) ≡ byArc n
+      pub split-is : {m : ℕ} → m ≡ memberCount n → list m (λ i. dealt (networkOf (t .parents) []) each more (pred i)) ≡ byArc n
       unfolding sumAbove
       split-is e =
           rw e
           (sym
-          (list-is (λ i. dealt (network (treeOf (t .parents) [])) each more (pred i)) 0 (memberCount n) (byArc n) (by-arc-length n)
+          (list-is (λ i. dealt (networkOf (t .parents) []) each more (pred i)) 0 (memberCount n) (byArc n) (by-arc-length n)
           (λ j h.
           by-arc-at n j h
           ∙ sum-cong (n .arcs)

@@ -6,7 +6,7 @@ ghost use mathlib.Core.Path.{_≡_};
 ghost use mathlib.Core.List.{[]};
 ghost use lib.ListN.{length};
 ghost use Rattle.game.specs.Network.{members};
-ghost use Rattle.game.specs.Tree.{treeOf, network};
+ghost use Rattle.game.specs.Tree.{treeOf, networkOf};
 ghost use Rattle.game.specs.ByArc.{byArc};
 ghost use Rattle.answer_forms.specs.Answer.{accepted};
 ghost use Rattle.answers.specs.Checks.{treeCheck};
@@ -22,12 +22,12 @@ fn split_in(
     more: &mut [u64],
 )
     requires { ⌜ treeCheck (treeOf (now parents) (now costs)) ≡ accepted ⌝ }
-    requires { ⌜ now vertices ≡ members (network (treeOf (now parents) [])) ⌝ }
+    requires { ⌜ now vertices ≡ members (networkOf (now parents) []) ⌝ }
     requires { ⌜ length (now shares) ≡ length (now vertices) ⌝ }
     requires { ⌜ length (now counts) ≡ length (now parents) ⌝ }
     requires { ⌜ length (now each) ≡ length (now parents) ⌝ }
     requires { ⌜ length (now more) ≡ length (now parents) ⌝ }
-    ensures { λ _. ⌜ now (shares .exit) ≡ byArc (network (treeOf (now (parents .entry)) (now (costs .entry)))) ⌝ }
+    ensures { λ _. ⌜ now (shares .exit) ≡ byArc (networkOf (now (parents .entry)) (now (costs .entry))) ⌝ }
 {
     tree::write_user_counts(parents, vertices, shares, counts);
     divide(costs, counts, each, more);
@@ -36,9 +36,9 @@ fn split_in(
 
 pub fn split_arcs(parents: &[u16], costs: &[u32], vertices: &[u16], shares: &mut [u64])
     requires { ⌜ treeCheck (treeOf (now parents) (now costs)) ≡ accepted ⌝ }
-    requires { ⌜ now vertices ≡ members (network (treeOf (now parents) [])) ⌝ }
+    requires { ⌜ now vertices ≡ members (networkOf (now parents) []) ⌝ }
     requires { ⌜ length (now shares) ≡ length (now vertices) ⌝ }
-    ensures { λ _. ⌜ now (shares .exit) ≡ byArc (network (treeOf (now (parents .entry)) (now (costs .entry)))) ⌝ }
+    ensures { λ _. ⌜ now (shares .exit) ≡ byArc (networkOf (now (parents .entry)) (now (costs .entry))) ⌝ }
 {
     let m = parents.len();
     let mut counts = [0u64; MOST_ARCS];

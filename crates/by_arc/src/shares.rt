@@ -5,7 +5,7 @@ ghost use mathlib.Core.List.{[]};
 ghost use lib.ListN.{length};
 ghost use Rattle.basics.specs.Sum.{list};
 ghost use Rattle.game.specs.Network.{members};
-ghost use Rattle.game.specs.Tree.{treeOf, network, ofArc};
+ghost use Rattle.game.specs.Tree.{networkOf, ofArc};
 ghost use Rattle.tree.specs.Passes.{Sound};
 ghost use Rattle.by_arc.specs.Parts.{Parts, given, sumAbove, oneLess, dealt};
 
@@ -14,8 +14,8 @@ fn share_of(parents: &[u16], each: &[u64], more: &mut [u64], vertex: usize) -> u
     requires { ⌜ Sound (now parents) ⌝ }
     requires { ⌜ Parts (length (now parents)) (now each) (now more) ⌝ }
     requires { ⌜ vertex ≤ length (now parents) ⌝ }
-    ensures { λ r. ⌜ r ≡ sumAbove (network (treeOf (now (parents .entry)) [])) (given (ofArc (now (each .entry))) (ofArc (now (more .entry)))) vertex ⌝ }
-    ensures { λ _. ⌜ now (more .exit) ≡ oneLess (network (treeOf (now (parents .entry)) [])) (now (more .entry)) vertex ⌝ }
+    ensures { λ r. ⌜ r ≡ sumAbove (networkOf (now (parents .entry)) []) (given (ofArc (now (each .entry))) (ofArc (now (more .entry)))) vertex ⌝ }
+    ensures { λ _. ⌜ now (more .exit) ≡ oneLess (networkOf (now (parents .entry)) []) (now (more .entry)) vertex ⌝ }
 {
     let mut share: u64 = 0;
     let mut k = vertex;
@@ -39,10 +39,10 @@ pub fn write_shares(
     shares: &mut [u64],
 )
     requires { ⌜ Sound (now parents) ⌝ }
-    requires { ⌜ now vertices ≡ members (network (treeOf (now parents) [])) ⌝ }
+    requires { ⌜ now vertices ≡ members (networkOf (now parents) []) ⌝ }
     requires { ⌜ Parts (length (now parents)) (now each) (now more) ⌝ }
     requires { ⌜ length (now shares) ≡ length (now vertices) ⌝ }
-    ensures { λ _. ⌜ now (shares .exit) ≡ list (length (now (shares .entry))) (λ i. dealt (network (treeOf (now (parents .entry)) [])) (now (each .entry)) (now (more .entry)) (pred i)) ⌝ }
+    ensures { λ _. ⌜ now (shares .exit) ≡ list (length (now (shares .entry))) (λ i. dealt (networkOf (now (parents .entry)) []) (now (each .entry)) (now (more .entry)) (pred i)) ⌝ }
 {
     let mut j = 0;
     while j < vertices.len() {

@@ -5,7 +5,7 @@ use limits::MOST_ARCS;
 ghost use mathlib.Core.Path.{_≡_};
 ghost use lib.ListN.{length};
 ghost use Rattle.game.specs.Network.{memberCount};
-ghost use Rattle.game.specs.Tree.{treeOf, network};
+ghost use Rattle.game.specs.Tree.{treeOf, networkOf};
 ghost use Rattle.game.specs.ByArc.{byArc};
 ghost use Rattle.answer_forms.specs.Answer.{accepted};
 ghost use Rattle.answers.specs.Checks.{treeCheck};
@@ -15,9 +15,9 @@ ghost use Rattle.engine.specs.Outcomes.{memberCountOf};
 // The lists are accepted; `vertices` is room for one entry a member.
 fn divide(parents: &[u16], costs: &[u32], vertices: &mut [u16], out: &mut [u64])
     requires { ⌜ treeCheck (treeOf (now parents) (now costs)) ≡ accepted ⌝ }
-    requires { ⌜ length (now vertices) ≡ memberCount (network (treeOf (now parents) (now costs))) ⌝ }
-    requires { ⌜ length (now out) ≡ memberCount (network (treeOf (now parents) (now costs))) ⌝ }
-    ensures { λ _. ⌜ now (out .exit) ≡ byArc (network (treeOf (now (parents .entry)) (now (costs .entry)))) ⌝ }
+    requires { ⌜ length (now vertices) ≡ memberCount (networkOf (now parents) (now costs)) ⌝ }
+    requires { ⌜ length (now out) ≡ memberCount (networkOf (now parents) (now costs)) ⌝ }
+    ensures { λ _. ⌜ now (out .exit) ≡ byArc (networkOf (now (parents .entry)) (now (costs .entry))) ⌝ }
 {
     tree::write_members(parents, vertices);
     by_arc::split_arcs(parents, costs, vertices, out);

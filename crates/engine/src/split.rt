@@ -6,7 +6,7 @@ use limits::MOST_ARCS;
 ghost use mathlib.Core.Path.{_≡_};
 ghost use lib.ListN.{length};
 ghost use Rattle.game.specs.Network.{memberCount};
-ghost use Rattle.game.specs.Tree.{treeOf, network, ofArc};
+ghost use Rattle.game.specs.Tree.{treeOf, networkOf, ofArc};
 ghost use Rattle.game.specs.Level.{level};
 ghost use Rattle.answer_forms.specs.Answer.{accepted};
 ghost use Rattle.answers.specs.Checks.{treeCheck};
@@ -58,11 +58,11 @@ fn split_accepted(
     out: &mut [u64],
 ) -> LevelSplit
     requires { ⌜ treeCheck (treeOf (now parents) (now costs)) ≡ accepted ⌝ }
-    requires { ⌜ capsCheck (memberCount (network (treeOf (now parents) (now costs)))) (now caps) ≡ accepted ⌝ }
-    requires { ⌜ length (now vertices) ≡ memberCount (network (treeOf (now parents) (now costs))) ⌝ }
-    requires { ⌜ length (now out) ≡ memberCount (network (treeOf (now parents) (now costs))) ⌝ }
-    ensures { λ r. ⌜ levelOf r ≡ splitOr9 (network (treeOf (now (parents .entry)) (now (costs .entry)))) (now (caps .entry)) (shortArc (network (treeOf (now (parents .entry)) (now (costs .entry)))) (now (caps .entry)) (length (now (parents .entry)))) ⌝ }
-    ensures { λ r. ⌜ now (out .exit) ≡ listAfter (levelOf r) (now (out .entry)) (level (network (treeOf (now (parents .entry)) (now (costs .entry)))) (now (caps .entry)) (ofArc (now (costs .entry)))) ⌝ }
+    requires { ⌜ capsCheck (memberCount (networkOf (now parents) (now costs))) (now caps) ≡ accepted ⌝ }
+    requires { ⌜ length (now vertices) ≡ memberCount (networkOf (now parents) (now costs)) ⌝ }
+    requires { ⌜ length (now out) ≡ memberCount (networkOf (now parents) (now costs)) ⌝ }
+    ensures { λ r. ⌜ levelOf r ≡ splitOr9 (networkOf (now (parents .entry)) (now (costs .entry))) (now (caps .entry)) (shortArc (networkOf (now (parents .entry)) (now (costs .entry))) (now (caps .entry)) (length (now (parents .entry)))) ⌝ }
+    ensures { λ r. ⌜ now (out .exit) ≡ listAfter (levelOf r) (now (out .entry)) (level (networkOf (now (parents .entry)) (now (costs .entry))) (now (caps .entry)) (ofArc (now (costs .entry)))) ⌝ }
 {
     tree::write_members(parents, vertices);
     let members = vertices.len();

@@ -3,7 +3,7 @@ use answer_forms::Checked;
 use answer_forms::Refusal;
 ghost use mathlib.Core.Path.{_≡_};
 ghost use lib.ListN.{replicate};
-ghost use Rattle.game.specs.Tree.{treeOf, network};
+ghost use Rattle.game.specs.Tree.{treeOf, networkOf};
 ghost use Rattle.game.specs.Group.{wordsOf};
 ghost use Rattle.game.specs.Search.{isIn, named};
 ghost use Rattle.answer_forms.specs.Answer.{accepted, value, refusal};
@@ -38,8 +38,8 @@ fn refused(r: Refusal) -> Audited
 // The verdict of the group search.
 fn search_verdict(parents: &[u16], costs: &[u32], proposal: &[i64]) -> Audited
     requires { ⌜ auditCheck (treeOf (now parents) (now costs)) (now proposal) ≡ accepted ⌝ }
-    ensures { λ r. ⌜ auditOf (r .answer) ≡ value (searchVerdict (network (treeOf (now (parents .entry)) (now (costs .entry)))) (now (proposal .entry))) ⌝ }
-    ensures { λ r. ⌜ r .group ≡ wordsBeside (auditOf (r .answer)) (wordsOf (isIn (named (network (treeOf (now (parents .entry)) (now (costs .entry)))) (now (proposal .entry))))) ⌝ }
+    ensures { λ r. ⌜ auditOf (r .answer) ≡ value (searchVerdict (networkOf (now (parents .entry)) (now (costs .entry))) (now (proposal .entry))) ⌝ }
+    ensures { λ r. ⌜ r .group ≡ wordsBeside (auditOf (r .answer)) (wordsOf (isIn (named (networkOf (now (parents .entry)) (now (costs .entry))) (now (proposal .entry))))) ⌝ }
 {
     let found = search::search(parents, costs, proposal);
     let amount = found.amount;

@@ -33,3 +33,7 @@ network t =
       member = λ v. not (hasChild (t .parents) v);
       cost = ofArc (t .costs);
     }
+
+-- the network of a parent list and a cost list
+abbrev pub networkOf : List ℕ → List ℕ → Network
+networkOf parents costs = network (treeOf parents costs)

@@ -9,7 +9,7 @@ use lib.ListN.{length, getD}
 use lib.Dec.{ltb}
 use Rattle.basics.specs.Sum.{list}
 use Rattle.game.specs.Network.{Network, sumBelow, need, memberCount}
-use Rattle.game.specs.Tree.{treeOf, network}
+use Rattle.game.specs.Tree.{network, networkOf}
 use Rattle.basics.proofs.Bools.{both}
 use Rattle.basics.proofs.Lists.{list-at}
 use Rattle.answers.specs.Level.{split, capSum, shortArc, splitOr9}
@@ -46,16 +46,16 @@ module _ (n : Network) (caps : List ℕ) (m : ℕ) where
       (both (ltb (capSum n caps (suc k)) (need n (suc k))))
 
 -- costs do not decide what the caps add up to
-cap-sums-costs : (parents costs caps : List ℕ) (m : ℕ) → list m (capSum (network (treeOf parents [])) caps) ≡ list m (capSum (network (treeOf parents costs)) caps)
+cap-sums-costs : (parents costs caps : List ℕ) (m : ℕ) → list m (capSum (networkOf parents []) caps) ≡ list m (capSum (networkOf parents costs) caps)
 unfolding sumBelow
 cap-sums-costs parents costs caps m = refl
 
 -- the lists that the passes wrote
-pub short-answer : (parents costs caps needs sums : List ℕ) → length needs ≡ length parents → needs ≡ list (length parents) (need (network (treeOf parents costs)))
-    → sums ≡ list (length parents) (capSum (network (treeOf parents [])) caps)
-    → shortFrom (memberCount (network (treeOf parents costs))) needs sums (length needs)
-    ≡ splitOr9 (network (treeOf parents costs)) caps (shortArc (network (treeOf parents costs)) caps (length parents))
+pub short-answer : (parents costs caps needs sums : List ℕ) → length needs ≡ length parents → needs ≡ list (length parents) (need (networkOf parents costs))
+    → sums ≡ list (length parents) (capSum (networkOf parents []) caps)
+    → shortFrom (memberCount (networkOf parents costs)) needs sums (length needs)
+    ≡ splitOr9 (networkOf parents costs) caps (shortArc (networkOf parents costs) caps (length parents))
 short-answer parents costs caps needs sums l n s =
-    ap (shortFrom (memberCount (network (treeOf parents costs))) needs sums) l
-    ∙ ap₂ (λ (a b : List ℕ). shortFrom (memberCount (network (treeOf parents costs))) a b (length parents)) n (s ∙ cap-sums-costs parents costs caps (length parents))
-    ∙ short-arcs (network (treeOf parents costs)) caps (length parents) (length parents) (omega arith)
+    ap (shortFrom (memberCount (networkOf parents costs)) needs sums) l
+    ∙ ap₂ (λ (a b : List ℕ). shortFrom (memberCount (networkOf parents costs)) a b (length parents)) n (s ∙ cap-sums-costs parents costs caps (length parents))
+    ∙ short-arcs (networkOf parents costs) caps (length parents) (length parents) (omega arith)

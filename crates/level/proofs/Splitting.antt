@@ -5,7 +5,7 @@ use mathlib.Core.List.{List, []}
 use native.Mathlib.Omega.{arith}
 use lib.ListN.{length, getD, replicate}
 use Rattle.game.specs.Network.{memberCount, sumBelow}
-use Rattle.game.specs.Tree.{Tree, treeOf, network, ofArc}
+use Rattle.game.specs.Tree.{Tree, treeOf, network, networkOf, ofArc}
 use Rattle.game.specs.Level.{unit, units, arcsDown, level}
 use Rattle.game.proofs.Rise.{fill}
 use Rattle.basics.proofs.Sums.{In}
@@ -23,19 +23,19 @@ use Rattle.users.specs.Users.{LaidOut}
 -- what the loop works on: an accepted tree, caps that are enough, and its members laid out
 pub record Ready (parents costs caps starts counts order : List ℕ) : Type 0 where
   pub accepted : Accepted (treeOf parents costs)
-  pub capped : Capped (memberCount (network (treeOf parents []))) caps
-  pub enough : shortArc (network (treeOf parents costs)) caps (length parents) ≡ 0
-  pub laid : LaidOut (network (treeOf parents [])) starts counts order
+  pub capped : Capped (memberCount (networkOf parents [])) caps
+  pub enough : shortArc (networkOf parents costs) caps (length parents) ≡ 0
+  pub laid : LaidOut (networkOf parents []) starts counts order
 
 module _ {parents costs caps starts counts order : List ℕ} (ready : Ready parents costs caps starts counts order) where
-  pub few : memberCount (network (treeOf parents [])) ≤ mostArcs
+  pub few : memberCount (networkOf parents []) ≤ mostArcs
   few = members-bound (treeOf parents costs) (ready .accepted)
 
 -- costs do not decide who takes a unit
-units-costs : (parents costs caps l : List ℕ) (k t : ℕ) → units (network (treeOf parents [])) caps k t l ≡ units (network (treeOf parents costs)) caps k t l
+units-costs : (parents costs caps l : List ℕ) (k t : ℕ) → units (networkOf parents []) caps k t l ≡ units (networkOf parents costs) caps k t l
 unfolding units
 units-costs parents costs caps l k zero = refl
-units-costs parents costs caps l k (suc t) = ap (unit (network (treeOf parents costs)) caps k) (units-costs parents costs caps l k t)
+units-costs parents costs caps l k (suc t) = ap (unit (networkOf parents costs) caps k) (units-costs parents costs caps l k t)
 
 module _ (t : Tree) (caps : List ℕ) where
   -- the arcs above k are finished
@@ -62,7 +62,7 @@ module _ (t : Tree) (caps : List ℕ) where
       splitting-room limited =
           rw next (enough-left (network t) caps mostShare limited (suc j) shares (ok .rooted) (ofArc (t .costs)) enough (omega arith) (here .stands))
 
-      pub splitting-on : {after : List ℕ} → after ≡ units (network (treeOf (t .parents) [])) caps k (getD (t .costs) j 0) shares → Splitting after j
+      pub splitting-on : {after : List ℕ} → after ≡ units (networkOf (t .parents) []) caps k (getD (t .costs) j 0) shares → Splitting after j
       unfolding arcsDown
       splitting-on e =
           rw (e, next, units-costs (t .parents) (t .costs) caps shares (suc j) (getD (t .costs) j 0))

@@ -4,7 +4,7 @@ ghost use mathlib.Core.Path.{_≡_};
 ghost use mathlib.Core.List.{[]};
 ghost use lib.ListN.{length};
 ghost use Rattle.game.specs.Network.{memberCount, members};
-ghost use Rattle.game.specs.Tree.{treeOf, network, ofArc};
+ghost use Rattle.game.specs.Tree.{treeOf, networkOf, ofArc};
 ghost use Rattle.game.specs.Level.{level};
 ghost use Rattle.answer_forms.specs.Answer.{accepted};
 ghost use Rattle.answers.specs.Checks.{treeCheck};
@@ -23,11 +23,11 @@ fn give_out(
     shares: &mut [u64],
 )
     requires { ⌜ treeCheck (treeOf (now parents) (now costs)) ≡ accepted ⌝ }
-    requires { ⌜ Capped (memberCount (network (treeOf (now parents) []))) (now caps) ⌝ }
-    requires { ⌜ length (now shares) ≡ memberCount (network (treeOf (now parents) [])) ⌝ }
-    requires { ⌜ shortArc (network (treeOf (now parents) (now costs))) (now caps) (length (now parents)) ≡ 0 ⌝ }
-    requires { ⌜ LaidOut (network (treeOf (now parents) [])) (now starts) (now counts) (now order) ⌝ }
-    ensures { λ _. ⌜ now (shares .exit) ≡ level (network (treeOf (now (parents .entry)) (now (costs .entry)))) (now (caps .entry)) (ofArc (now (costs .entry))) ⌝ }
+    requires { ⌜ Capped (memberCount (networkOf (now parents) [])) (now caps) ⌝ }
+    requires { ⌜ length (now shares) ≡ memberCount (networkOf (now parents) []) ⌝ }
+    requires { ⌜ shortArc (networkOf (now parents) (now costs)) (now caps) (length (now parents)) ≡ 0 ⌝ }
+    requires { ⌜ LaidOut (networkOf (now parents) []) (now starts) (now counts) (now order) ⌝ }
+    ensures { λ _. ⌜ now (shares .exit) ≡ level (networkOf (now (parents .entry)) (now (costs .entry))) (now (caps .entry)) (ofArc (now (costs .entry))) ⌝ }
 {
     tree::write_all(shares, 0);
     let mut k = parents.len();
@@ -51,14 +51,14 @@ fn split_laid_out(
     shares: &mut [u64],
 )
     requires { ⌜ treeCheck (treeOf (now parents) (now costs)) ≡ accepted ⌝ }
-    requires { ⌜ now vertices ≡ members (network (treeOf (now parents) [])) ⌝ }
+    requires { ⌜ now vertices ≡ members (networkOf (now parents) []) ⌝ }
     requires { ⌜ Capped (length (now vertices)) (now caps) ⌝ }
     requires { ⌜ length (now shares) ≡ length (now vertices) ⌝ }
-    requires { ⌜ shortArc (network (treeOf (now parents) (now costs))) (now caps) (length (now parents)) ≡ 0 ⌝ }
+    requires { ⌜ shortArc (networkOf (now parents) (now costs)) (now caps) (length (now parents)) ≡ 0 ⌝ }
     requires { ⌜ length (now starts) ≡ length (now parents) ⌝ }
     requires { ⌜ length (now counts) ≡ length (now parents) ⌝ }
     requires { ⌜ length (now order) ≡ length (now vertices) ⌝ }
-    ensures { λ _. ⌜ now (shares .exit) ≡ level (network (treeOf (now (parents .entry)) (now (costs .entry)))) (now (caps .entry)) (ofArc (now (costs .entry))) ⌝ }
+    ensures { λ _. ⌜ now (shares .exit) ≡ level (networkOf (now (parents .entry)) (now (costs .entry))) (now (caps .entry)) (ofArc (now (costs .entry))) ⌝ }
 {
     tree::write_user_counts(parents, vertices, shares, counts);
     users::lay_out(parents, vertices, counts, starts, order);
@@ -73,11 +73,11 @@ pub fn split_arcs(
     shares: &mut [u64],
 )
     requires { ⌜ treeCheck (treeOf (now parents) (now costs)) ≡ accepted ⌝ }
-    requires { ⌜ now vertices ≡ members (network (treeOf (now parents) [])) ⌝ }
+    requires { ⌜ now vertices ≡ members (networkOf (now parents) []) ⌝ }
     requires { ⌜ Capped (length (now vertices)) (now caps) ⌝ }
     requires { ⌜ length (now shares) ≡ length (now vertices) ⌝ }
-    requires { ⌜ shortArc (network (treeOf (now parents) (now costs))) (now caps) (length (now parents)) ≡ 0 ⌝ }
-    ensures { λ _. ⌜ now (shares .exit) ≡ level (network (treeOf (now (parents .entry)) (now (costs .entry)))) (now (caps .entry)) (ofArc (now (costs .entry))) ⌝ }
+    requires { ⌜ shortArc (networkOf (now parents) (now costs)) (now caps) (length (now parents)) ≡ 0 ⌝ }
+    ensures { λ _. ⌜ now (shares .exit) ≡ level (networkOf (now (parents .entry)) (now (costs .entry))) (now (caps .entry)) (ofArc (now (costs .entry))) ⌝ }
 {
     let m = parents.len();
     let n = vertices.len();

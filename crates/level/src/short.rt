@@ -5,7 +5,7 @@ ghost use Prim.Native.Nat.{ℕ};
 ghost use mathlib.Core.List.{[]};
 ghost use lib.ListN.{length};
 ghost use Rattle.game.specs.Network.{members, memberCount};
-ghost use Rattle.game.specs.Tree.{treeOf, network};
+ghost use Rattle.game.specs.Tree.{treeOf, networkOf};
 ghost use Rattle.answer_forms.specs.Answer.{accepted};
 ghost use Rattle.answers.specs.Checks.{treeCheck};
 ghost use Rattle.tree.specs.Passes.{Capped};
@@ -57,11 +57,11 @@ fn compare(
     sums: &mut [u64],
 ) -> CapsFound
     requires { ⌜ treeCheck (treeOf (now parents) (now costs)) ≡ accepted ⌝ }
-    requires { ⌜ now vertices ≡ members (network (treeOf (now parents) [])) ⌝ }
+    requires { ⌜ now vertices ≡ members (networkOf (now parents) []) ⌝ }
     requires { ⌜ Capped (length (now vertices)) (now caps) ⌝ }
     requires { ⌜ length (now needs) ≡ length (now parents) ⌝ }
     requires { ⌜ length (now sums) ≡ length (now parents) ⌝ }
-    ensures { λ r. ⌜ answerOf (memberCount (network (treeOf (now (parents .entry)) (now (costs .entry))))) r ≡ splitOr9 (network (treeOf (now (parents .entry)) (now (costs .entry)))) (now (caps .entry)) (shortArc (network (treeOf (now (parents .entry)) (now (costs .entry)))) (now (caps .entry)) (length (now (parents .entry)))) ⌝ }
+    ensures { λ r. ⌜ answerOf (memberCount (networkOf (now (parents .entry)) (now (costs .entry)))) r ≡ splitOr9 (networkOf (now (parents .entry)) (now (costs .entry))) (now (caps .entry)) (shortArc (networkOf (now (parents .entry)) (now (costs .entry))) (now (caps .entry)) (length (now (parents .entry)))) ⌝ }
 {
     tree::write_needs(parents, costs, needs);
     tree::write_cap_sums(parents, vertices, caps, sums);
@@ -71,9 +71,9 @@ fn compare(
 // The needs and the cap sums of all arcs, then the arcs from the last down.
 pub fn find_short(parents: &[u16], costs: &[u32], vertices: &[u16], caps: &[u64]) -> CapsFound
     requires { ⌜ treeCheck (treeOf (now parents) (now costs)) ≡ accepted ⌝ }
-    requires { ⌜ now vertices ≡ members (network (treeOf (now parents) [])) ⌝ }
+    requires { ⌜ now vertices ≡ members (networkOf (now parents) []) ⌝ }
     requires { ⌜ Capped (length (now vertices)) (now caps) ⌝ }
-    ensures { λ r. ⌜ answerOf (memberCount (network (treeOf (now (parents .entry)) (now (costs .entry))))) r ≡ splitOr9 (network (treeOf (now (parents .entry)) (now (costs .entry)))) (now (caps .entry)) (shortArc (network (treeOf (now (parents .entry)) (now (costs .entry)))) (now (caps .entry)) (length (now (parents .entry)))) ⌝ }
+    ensures { λ r. ⌜ answerOf (memberCount (networkOf (now (parents .entry)) (now (costs .entry)))) r ≡ splitOr9 (networkOf (now (parents .entry)) (now (costs .entry))) (now (caps .entry)) (shortArc (networkOf (now (parents .entry)) (now (costs .entry))) (now (caps .entry)) (length (now (parents .entry)))) ⌝ }
 {
     let m = parents.len();
     let mut needs = [0u64; MOST_ARCS];

@@ -9,7 +9,7 @@ use lib.Seq.{length-take-le}
 use Rattle.limits.specs.Limits.{mostArcs}
 use Rattle.game.specs.Network.{memberCount}
 use Rattle.basics.proofs.Lists.{list-length, list-part}
-use Rattle.game.specs.Tree.{treeOf, network}
+use Rattle.game.specs.Tree.{treeOf, networkOf}
 use Rattle.answer_forms.specs.Answer.{Check, accepted, value, refusal, written}
 use Rattle.answers.specs.Checks.{treeCheck}
 use Rattle.answer_forms.proofs.Composed.{answered, refused-answer}
@@ -82,7 +82,7 @@ module _ {bytes : List ℕ} {v : JobValue} {l : Lent} (f : Fronts bytes v l) whe
   front-tree = rw (sub-zero (v .arcs)) (f .usable .tree)
 
   pub front-members :
-      length (take (v .members - 0) (l .proposals)) ≡ memberCount (network (treeOf (take (v .arcs - 0) (l .parents)) (take (v .arcs - 0) (l .costs))))
+      length (take (v .members - 0) (l .proposals)) ≡ memberCount (networkOf (take (v .arcs - 0) (l .parents)) (take (v .arcs - 0) (l .costs)))
   front-members =
       rw (sub-zero (v .arcs), sub-zero (v .members)) (length-take-le (v .members) (l .proposals) (f .proposals .room) ∙ sym (f .usable .members))
 

@@ -6,7 +6,7 @@ use mathlib.Core.List.{List, []}
 use lib.ListN.{length, getD}
 use lib.IntN.{ℤ}
 use Rattle.game.specs.Network.{number, memberCount}
-use Rattle.game.specs.Tree.{Tree, treeOf, network, hasChild}
+use Rattle.game.specs.Tree.{Tree, network, networkOf, hasChild}
 use Rattle.basics.specs.Bit.{bit}
 use Rattle.game.specs.Group.{wordsOf}
 use Rattle.basics.proofs.Sums.{In}
@@ -27,7 +27,7 @@ pub record Exceeding (t : Tree) (shares : List ℤ) (total : ℕ) (excesses : Li
 -- the words of the members that are active by the excesses
 pub record Marked (parents excesses words : List ℕ) : Type 0 where
   pub act : ℕ → Bool
-  pub active : Active (network (treeOf parents [])) (λ v. getD excesses v 0) act
-  pub marks : (v : ℕ) → In (length parents) v → hasChild parents v ≡ false → bit words (number (network (treeOf parents [])) v) ≡ act v
-  pub none-beyond : (j : ℕ) → memberCount (network (treeOf parents [])) ≤ j → bit words j ≡ false
+  pub active : Active (networkOf parents []) (λ v. getD excesses v 0) act
+  pub marks : (v : ℕ) → In (length parents) v → hasChild parents v ≡ false → bit words (number (networkOf parents []) v) ≡ act v
+  pub none-beyond : (j : ℕ) → memberCount (networkOf parents []) ≤ j → bit words j ≡ false
   pub encoded : words ≡ wordsOf (bit words)

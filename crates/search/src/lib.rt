@@ -4,7 +4,7 @@ mod mark;
 
 ghost use mathlib.Core.Path.{_≡_};
 ghost use lib.IntN.{pos};
-ghost use Rattle.game.specs.Tree.{treeOf, network};
+ghost use Rattle.game.specs.Tree.{treeOf, networkOf};
 ghost use Rattle.game.specs.Group.{wordsOf};
 ghost use Rattle.game.specs.Proposal.{overpayment};
 ghost use Rattle.game.specs.Search.{isIn, named};
@@ -19,8 +19,8 @@ pub struct Found {
 
 pub fn search(parents: &[u16], costs: &[u32], proposal: &[i64]) -> Found
     requires { ⌜ auditCheck (treeOf (now parents) (now costs)) (now proposal) ≡ accepted ⌝ }
-    ensures { λ r. ⌜ overpayment (network (treeOf (now (parents .entry)) (now (costs .entry)))) (now (proposal .entry)) (isIn (named (network (treeOf (now (parents .entry)) (now (costs .entry)))) (now (proposal .entry)))) ≡ pos (r .amount) ⌝ }
-    ensures { λ r. ⌜ r .group ≡ wordsOf (isIn (named (network (treeOf (now (parents .entry)) (now (costs .entry)))) (now (proposal .entry)))) ⌝ }
+    ensures { λ r. ⌜ overpayment (networkOf (now (parents .entry)) (now (costs .entry))) (now (proposal .entry)) (isIn (named (networkOf (now (parents .entry)) (now (costs .entry))) (now (proposal .entry)))) ≡ pos (r .amount) ⌝ }
+    ensures { λ r. ⌜ r .group ≡ wordsOf (isIn (named (networkOf (now (parents .entry)) (now (costs .entry))) (now (proposal .entry)))) ⌝ }
 {
     let found = excess::find_excesses(parents, costs, proposal);
     let of = found.of;

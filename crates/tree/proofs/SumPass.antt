@@ -9,7 +9,7 @@ use lib.ListN.{length, getD, set, replicate, length-set}
 use lib.Seq.{getD-set-same, getD-set-other}
 use Rattle.basics.specs.Sum.{sum, list}
 use Rattle.game.specs.Network.{sumBelow}
-use Rattle.game.specs.Tree.{treeOf, network, ofArc}
+use Rattle.game.specs.Tree.{networkOf, ofArc}
 use Rattle.basics.proofs.Bools.{pick-yes}
 use Rattle.game.proofs.Below.{sum-below-children, sum-from-source}
 use Rattle.game.proofs.SumBounds.{sum-below-le, children-le}
@@ -20,7 +20,7 @@ use Rattle.tree.proofs.Carry.{amounts, child, Carried, carried-start, c
 module _ (ps xs : List ℕ) where
   -- an arc's entry and those of all arcs below it
   abbrev pub total : ℕ → ℕ
-  total = sumBelow (network (treeOf ps [])) (ofArc xs)
+  total = sumBelow (networkOf ps []) (ofArc xs)
 
   -- with the arcs 1 to k still to come: the places from k on hold sums, those below k their entries
   pub record Summing (out below : List ℕ) (k : ℕ) : Type 0 where
@@ -49,7 +49,7 @@ module _ (ps xs : List ℕ) where
           arith,
           s .carried .lacks 0 (omega arith),
           ap (λ (i : ℕ). sum i (child amounts ps total 0)) e,
-          sum-from-source (network (treeOf ps [])) (sound .rising) (ofArc xs),
+          sum-from-source (networkOf ps []) (sound .rising) (ofArc xs),
         )
 
     module _ (k j : ℕ) (within : k ≤ length ps) (next : k ≡ suc j) {out below : List ℕ} (s : Summing out below k) where
@@ -64,11 +64,11 @@ module _ (ps xs : List ℕ) where
             arith,
             s .waiting j (omega arith),
             carried-at amounts ps total sound j (omega arith) below here,
-            sum-below-children (network (treeOf ps [])) (sound .rising) (ofArc xs) (suc j) (omega arith),
+            sum-below-children (networkOf ps []) (sound .rising) (ofArc xs) (suc j) (omega arith),
           ))
 
       pub summing-fits : (w : ℕ) → w ≡ total k → w ≤ sum (length ps) (ofArc xs)
-      summing-fits w e = omega (arith, sum-below-le (network (treeOf ps [])) (ofArc xs) k)
+      summing-fits w e = omega (arith, sum-below-le (networkOf ps []) (ofArc xs) k)
 
       pub summing-carry : (w : ℕ) → w ≡ total k → getD below (getD ps j 0) 0 + w ≤ sum (length ps) (ofArc xs)
       summing-carry w e =
@@ -77,7 +77,7 @@ module _ (ps xs : List ℕ) where
             here .lacks (getD ps j 0) (omega (arith, sound .rising j, sound .few)),
             pick-yes (total (suc j)) (eq-eqb (getD ps j 0) (getD ps j 0) refl),
             ap total next,
-            children-le (network (treeOf ps [])) (sound .rising) (ofArc xs) (getD ps j 0) (omega (arith, sound .rising j)),
+            children-le (networkOf ps []) (sound .rising) (ofArc xs) (getD ps j 0) (omega (arith, sound .rising j)),
           )
 
       pub summing-on : (w : ℕ) → w ≡ total k → Summing (set out j w) (set below (getD ps j 0) (getD below (getD ps j 0) 0 + w)) j

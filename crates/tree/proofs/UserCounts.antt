@@ -7,7 +7,7 @@ use native.Mathlib.Omega.{arith}
 use lib.ListN.{length, getD, replicate, length-replicate, getD-replicate, List·getD-eq-default}
 use Rattle.basics.specs.Sum.{pick, list, size}
 use Rattle.game.specs.Network.{memberCount}
-use Rattle.game.specs.Tree.{treeOf, network}
+use Rattle.game.specs.Tree.{networkOf}
 use Rattle.game.specs.Core.{users}
 use Rattle.game.specs.ByArc.{userCount}
 use Rattle.basics.proofs.Sums.{sum-cong}
@@ -29,11 +29,11 @@ module _ {ones : List ℕ} {k : ℕ} (are : ones ≡ replicate k 1) where
             ];
       })
 
-  pub ones-count : (ps : List ℕ) → k ≡ memberCount (network (treeOf ps []))
-      → list (length ps) (capSum (network (treeOf ps [])) ones) ≡ list (length ps) (userCount (network (treeOf ps [])))
+  pub ones-count : (ps : List ℕ) → k ≡ memberCount (networkOf ps [])
+      → list (length ps) (capSum (networkOf ps []) ones) ≡ list (length ps) (userCount (networkOf ps []))
   unfolding size
   ones-count ps e =
-      let n = network (treeOf ps []) in
+      let n = networkOf ps [] in
       rw (are, e)
       (ap (list (length ps))
       (fun-ext

@@ -6,15 +6,15 @@ use native.Mathlib.Omega.{arith}
 use lib.ListN.{length}
 use Rattle.limits.specs.Limits.{mostArcs}
 use Rattle.game.specs.Network.{memberCount, members}
-use Rattle.game.specs.Tree.{treeOf, network}
+use Rattle.game.specs.Tree.{networkOf}
 use Rattle.basics.proofs.Sums.{count-le}
 use Rattle.tree.specs.Passes.{Sound}
 use Rattle.tree.proofs.MemberPass.{isMember}
 use Rattle.tree.proofs.CapPass.{member-count}
 
-module _ (ps vertices : List ℕ) (are : vertices ≡ members (network (treeOf ps []))) where
-  pub vertices-count : length vertices ≡ memberCount (network (treeOf ps []))
-  vertices-count = member-count (network (treeOf ps [])) are
+module _ (ps vertices : List ℕ) (are : vertices ≡ members (networkOf ps [])) where
+  pub vertices-count : length vertices ≡ memberCount (networkOf ps [])
+  vertices-count = member-count (networkOf ps []) are
 
   pub vertices-few : Sound ps → length vertices ≤ mostArcs
   vertices-few sound = omega (arith, vertices-count, count-le (length ps) (isMember ps), sound .few)

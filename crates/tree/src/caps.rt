@@ -6,17 +6,17 @@ ghost use mathlib.Core.List.{[]};
 ghost use lib.ListN.{length};
 ghost use Rattle.basics.specs.Sum.{list};
 ghost use Rattle.game.specs.Network.{members};
-ghost use Rattle.game.specs.Tree.{treeOf, network};
+ghost use Rattle.game.specs.Tree.{networkOf};
 ghost use Rattle.tree.specs.Passes.{Capped, Sound};
 ghost use Rattle.answers.specs.Level.{capSum};
 
 // Writes for each arc what the caps of its users add up to.
 pub fn write_cap_sums(parents: &[u16], vertices: &[u16], caps: &[u64], out: &mut [u64])
     requires { ⌜ Sound (now parents) ⌝ }
-    requires { ⌜ now vertices ≡ members (network (treeOf (now parents) [])) ⌝ }
+    requires { ⌜ now vertices ≡ members (networkOf (now parents) []) ⌝ }
     requires { ⌜ Capped (length (now vertices)) (now caps) ⌝ }
     requires { ⌜ length (now out) ≡ length (now parents) ⌝ }
-    ensures { λ _. ⌜ now (out .exit) ≡ list (length (now (parents .entry))) (capSum (network (treeOf (now (parents .entry)) [])) (now (caps .entry))) ⌝ }
+    ensures { λ _. ⌜ now (out .exit) ≡ list (length (now (parents .entry))) (capSum (networkOf (now (parents .entry)) []) (now (caps .entry))) ⌝ }
 {
     write_all(out, 0);
     let mut j = 0;

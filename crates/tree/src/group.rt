@@ -5,7 +5,7 @@ ghost use mathlib.Core.Path.{_≡_};
 ghost use mathlib.Core.Bool.{_||_, cond};
 ghost use Rattle.basics.specs.Sum.{pick};
 ghost use Rattle.game.specs.Network.{groupCost, memberCount};
-ghost use Rattle.game.specs.Tree.{treeOf, network};
+ghost use Rattle.game.specs.Tree.{treeOf, networkOf};
 ghost use Rattle.basics.specs.Bit.{bit};
 ghost use Rattle.game.specs.Group.{byNumber};
 ghost use Rattle.answer_forms.specs.Answer.{accepted};
@@ -33,8 +33,8 @@ fn cost_if(used: bool, cost: u32) -> u64
 // The cost of the group whose member numbers are set in the words.
 pub fn cost_of(parents: &[u16], costs: &[u32], words: [u64; 16], members: usize) -> u64
     requires { ⌜ treeCheck (treeOf (now parents) (now costs)) ≡ accepted ⌝ }
-    requires { ⌜ members ≡ memberCount (network (treeOf (now parents) (now costs))) ⌝ }
-    ensures { λ r. ⌜ r ≡ groupCost (network (treeOf (now (parents .entry)) (now (costs .entry)))) (byNumber (network (treeOf (now (parents .entry)) (now (costs .entry)))) (bit words)) ⌝ }
+    requires { ⌜ members ≡ memberCount (networkOf (now parents) (now costs)) ⌝ }
+    ensures { λ r. ⌜ r ≡ groupCost (networkOf (now (parents .entry)) (now (costs .entry))) (byNumber (networkOf (now (parents .entry)) (now (costs .entry))) (bit words)) ⌝ }
 {
     let mut has_child = [false; MOST_ARCS + 1];
     let mut used = [false; MOST_ARCS + 1];

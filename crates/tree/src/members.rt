@@ -7,7 +7,7 @@ ghost use mathlib.Core.List.{[]};
 ghost use lib.ListN.{length, set};
 ghost use Rattle.basics.specs.Sum.{pick};
 ghost use Rattle.game.specs.Network.{memberCount, members};
-ghost use Rattle.game.specs.Tree.{treeOf, network};
+ghost use Rattle.game.specs.Tree.{networkOf};
 ghost use Rattle.tree.specs.Passes.{Sound};
 
 // 1 for a member, which has no child, else 0.
@@ -20,7 +20,7 @@ pub fn one_if_member(has_child: bool) -> usize
 // The number of members.
 pub fn count_members(parents: &[u16]) -> usize
     requires { ⌜ Sound (now parents) ⌝ }
-    ensures { λ r. ⌜ r ≡ memberCount (network (treeOf (now (parents .entry)) [])) ⌝ }
+    ensures { λ r. ⌜ r ≡ memberCount (networkOf (now (parents .entry)) []) ⌝ }
 {
     let mut has_child = [false; MOST_ARCS + 1];
     let mut n = 0;
@@ -50,8 +50,8 @@ fn place_member(out: &mut [u16], j: usize, k: u16, has_child: bool) -> usize
 // Writes the members' vertices in rising order.
 pub fn write_members(parents: &[u16], out: &mut [u16])
     requires { ⌜ Sound (now parents) ⌝ }
-    requires { ⌜ length (now out) ≡ memberCount (network (treeOf (now parents) [])) ⌝ }
-    ensures { λ _. ⌜ now (out .exit) ≡ members (network (treeOf (now (parents .entry)) [])) ⌝ }
+    requires { ⌜ length (now out) ≡ memberCount (networkOf (now parents) []) ⌝ }
+    ensures { λ _. ⌜ now (out .exit) ≡ members (networkOf (now (parents .entry)) []) ⌝ }
 {
     let mut has_child = [false; MOST_ARCS + 1];
     let mut j = out.len();

@@ -4,7 +4,7 @@ ghost use mathlib.Core.Path.{_≡_};
 ghost use lib.ListN.{length};
 ghost use Rattle.basics.specs.Sum.{list};
 ghost use Rattle.game.specs.Network.{need, wholeCost};
-ghost use Rattle.game.specs.Tree.{treeOf, network};
+ghost use Rattle.game.specs.Tree.{treeOf, networkOf};
 ghost use Rattle.answer_forms.specs.Answer.{accepted};
 ghost use Rattle.answers.specs.Checks.{treeCheck};
 
@@ -24,8 +24,8 @@ fn widen(costs: &[u32], out: &mut [u64])
 pub fn write_needs(parents: &[u16], costs: &[u32], out: &mut [u64]) -> u64
     requires { ⌜ treeCheck (treeOf (now parents) (now costs)) ≡ accepted ⌝ }
     requires { ⌜ length (now out) ≡ length (now parents) ⌝ }
-    ensures { λ r. ⌜ r ≡ wholeCost (network (treeOf (now (parents .entry)) (now (costs .entry)))) ⌝ }
-    ensures { λ _. ⌜ now (out .exit) ≡ list (length (now (parents .entry))) (need (network (treeOf (now (parents .entry)) (now (costs .entry))))) ⌝ }
+    ensures { λ r. ⌜ r ≡ wholeCost (networkOf (now (parents .entry)) (now (costs .entry))) ⌝ }
+    ensures { λ _. ⌜ now (out .exit) ≡ list (length (now (parents .entry))) (need (networkOf (now (parents .entry)) (now (costs .entry)))) ⌝ }
 {
     widen(costs, out);
     add_up(parents, out)

@@ -9,7 +9,7 @@ use lib.Seq.{drop-cons}
 use lib.Dec.{eqb}
 use Rattle.basics.specs.Sum.{pick, sum, list}
 use Rattle.game.specs.Network.{Network, atOrBelow, memberCount, members}
-use Rattle.game.specs.Tree.{treeOf, network, ofArc}
+use Rattle.game.specs.Tree.{treeOf, networkOf, ofArc}
 use Rattle.game.specs.Core.{users}
 use Rattle.game.specs.ByArc.{userCount}
 use Rattle.basics.proofs.Bools.{pick-yes}
@@ -42,9 +42,9 @@ two-terms : (m a b : ℕ) (f : ℕ → ℕ) → 0 < a → a ≤ b → suc b ≤ 
 two-terms m a b f low less high = omega (arith, term-le b a f (omega arith), sum-longer (suc b) m f high)
 
 -- the numbers of users as they are handed in
-pub user-counts : (ps : List ℕ) → Sound ps → {counts : List ℕ} → counts ≡ list (length ps) (userCount (network (treeOf ps []))) → Counts (length ps) counts
+pub user-counts : (ps : List ℕ) → Sound ps → {counts : List ℕ} → counts ≡ list (length ps) (userCount (networkOf ps [])) → Counts (length ps) counts
 user-counts ps sound e =
-    let n = network (treeOf ps []) in
+    let n = networkOf ps [] in
     rw e
     (record {
       sized = list-length (userCount n) (length ps);
@@ -59,10 +59,10 @@ user-counts ps sound e =
           );
     })
 
-module _ (ps counts starts : List ℕ) (sound : Sound ps) (counted : counts ≡ list (length ps) (userCount (network (treeOf ps []))))
+module _ (ps counts starts : List ℕ) (sound : Sound ps) (counted : counts ≡ list (length ps) (userCount (networkOf ps [])))
     (begun : Begun ps counts starts) where
   abbrev net : Network
-  net = network (treeOf ps [])
+  net = networkOf ps []
 
   count-of : (k : ℕ) → In (length ps) k → ofArc counts k ≡ userCount net k
   count-of k i = ap (λ (l : List ℕ). ofArc l k) counted ∙ of-list (length ps) (userCount net) k i

@@ -5,7 +5,7 @@ ghost use mathlib.Core.List.{[]};
 ghost use lib.ListN.{length};
 ghost use Rattle.basics.specs.Sum.{list};
 ghost use Rattle.game.specs.Network.{members};
-ghost use Rattle.game.specs.Tree.{treeOf, network};
+ghost use Rattle.game.specs.Tree.{networkOf};
 ghost use Rattle.game.specs.ByArc.{userCount};
 ghost use Rattle.tree.specs.Passes.{Sound};
 ghost use Rattle.users.specs.Users.{LaidOut};
@@ -54,11 +54,11 @@ pub fn lay_out(
     order: &mut [u16],
 )
     requires { ⌜ Sound (now parents) ⌝ }
-    requires { ⌜ now vertices ≡ members (network (treeOf (now parents) [])) ⌝ }
-    requires { ⌜ now counts ≡ list (length (now parents)) (userCount (network (treeOf (now parents) []))) ⌝ }
+    requires { ⌜ now vertices ≡ members (networkOf (now parents) []) ⌝ }
+    requires { ⌜ now counts ≡ list (length (now parents)) (userCount (networkOf (now parents) [])) ⌝ }
     requires { ⌜ length (now starts) ≡ length (now parents) ⌝ }
     requires { ⌜ length (now order) ≡ length (now vertices) ⌝ }
-    ensures { λ _. ⌜ LaidOut (network (treeOf (now (parents .entry)) [])) (now (starts .exit)) (now (counts .entry)) (now (order .exit)) ⌝ }
+    ensures { λ _. ⌜ LaidOut (networkOf (now (parents .entry)) []) (now (starts .exit)) (now (counts .entry)) (now (order .exit)) ⌝ }
 {
     write_starts(parents, counts, starts);
     write_order(vertices, starts, order);

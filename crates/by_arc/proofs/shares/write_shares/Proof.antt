@@ -4,7 +4,7 @@ use mathlib.Core.List.{List, []}
 use native.Mathlib.Omega.{arith}
 use lib.ListN.{length, getD}
 use Rattle.game.specs.Network.{members}
-use Rattle.game.specs.Tree.{treeOf, network}
+use Rattle.game.specs.Tree.{networkOf}
 use Rattle.tree.specs.Passes.{Sound}
 use Rattle.tree.proofs.CapPass.{member-in}
 use Rattle.by_arc.specs.Parts.{Parts}
@@ -16,7 +16,7 @@ use Rattle.by_arc.proofs.shares.write_shares.Tie as tie
 abbrev Inv-loop : tie.InvT-loop
 Inv-loop parents vertices each more₀ shares₀ j₀ more shares j =
     Sound parents
-    × (vertices ≡ members (network (treeOf parents [])))
+    × (vertices ≡ members (networkOf parents []))
     × Parts (length parents) each more₀
     × (length shares₀ ≡ length vertices)
     × Serving parents each more₀ shares₀ more shares j
@@ -35,7 +35,7 @@ cast-share-of c = omega (arith, c .shared-slice-known4 .given (c .before .before
 share-of-requires : tie.Need-share-of-requires Inv-loop μ-loop
 share-of-requires c κs =
     let at = c .before .before .before .loop in
-    (at .inv .0, (serving-parts _ _ _ _ (at .inv .2) (at .inv .4), member-in (network (treeOf _ [])) (at .inv .1) (at .j) (omega arith) .high))
+    (at .inv .0, (serving-parts _ _ _ _ (at .inv .2) (at .inv .4), member-in (networkOf _ []) (at .inv .1) (at .j) (omega arith) .high))
 
 loop-again : tie.Need-loop-again Inv-loop μ-loop
 loop-again c =

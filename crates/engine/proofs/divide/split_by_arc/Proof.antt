@@ -5,7 +5,7 @@ use lib.ListN.{length}
 use denote.Ref.{now}
 use Rattle.limits.specs.Limits.{mostArcs}
 use Rattle.game.specs.Network.{memberCount}
-use Rattle.game.specs.Tree.{treeOf, network}
+use Rattle.game.specs.Tree.{treeOf, networkOf}
 use Rattle.answer_forms.specs.Answer.{accepted}
 use Rattle.answers.specs.Checks.{treeCheck, lengthCheck}
 use Rattle.answers.specs.ByArc.{byArcAnswer, byArcList}
@@ -31,7 +31,7 @@ count-members-requires : tie.Need-count-members-requires
 count-members-requires c κs = sound _ (tree-accepted _ (accepted-tree c))
 
 -- the output check asks for as many places as there are members
-output : (c : tie.After-check-output) → checkOf (c .check-output .result) ≡ lengthCheck (memberCount (network (treeOf (now (c .before .before .before .before .before .before .before .before .args .parents)) (now (c .before .before .before .before .before .before .before .before .args .costs))))) (length (now (c .before .before .before .before .before .before .before .before .args .out)))
+output : (c : tie.After-check-output) → checkOf (c .check-output .result) ≡ lengthCheck (memberCount (networkOf (now (c .before .before .before .before .before .before .before .before .args .parents)) (now (c .before .before .before .before .before .before .before .before .args .costs)))) (length (now (c .before .before .before .before .before .before .before .before .args .out)))
 output c = c .check-output .ensures ∙ ap (λ (n : ℕ). lengthCheck n (length (now (c .before .before .before .before .before .before .before .before .args .out)))) (c .before .count-members .ensures)
 
 returns-2 : tie.Need-returns-2
@@ -40,7 +40,7 @@ returns-2 c =
     let tree = accepted-tree (c .before .before .before .before .before) in
     let away = turned-away (output (c .before .before .before)) (c .before .enum-told4 .given .1) (c .refusal-of2 .ensures) in (rw (tree, away), rw (tree, away))
 
-accepted-output : (c : tie.After-enum-told3) → lengthCheck (memberCount (network (treeOf (now (c .before .before .before .before .before .before .before .before .before .before .args .parents)) (now (c .before .before .before .before .before .before .before .before .before .before .args .costs))))) (length (now (c .before .before .before .before .before .before .before .before .before .before .args .out))) ≡ accepted
+accepted-output : (c : tie.After-enum-told3) → lengthCheck (memberCount (networkOf (now (c .before .before .before .before .before .before .before .before .before .before .args .parents)) (now (c .before .before .before .before .before .before .before .before .before .before .args .costs)))) (length (now (c .before .before .before .before .before .before .before .before .before .before .args .out))) ≡ accepted
 accepted-output c = opened (output (c .before .before)) (c .enum-told3 .given .1)
 
 few-members : (c : tie.After-enum-told3) → c .before .before .before .count-members .result ≤ mostArcs

@@ -4,7 +4,7 @@ use denote.Ref.{now}
 use native.Mathlib.Omega.{arith}
 use borrow.Author.Needs.{needs}
 use Rattle.game.specs.Network.{memberCount}
-use Rattle.game.specs.Tree.{treeOf, network}
+use Rattle.game.specs.Tree.{treeOf, networkOf}
 use Rattle.answer_forms.specs.Answer.{accepted}
 use Rattle.answers.specs.Checks.{treeCheck, groupCheck}
 use Rattle.answers.specs.GroupCost.{groupCostAnswer}
@@ -31,7 +31,7 @@ count-members-requires c κs = sound _ (tree-accepted _ (accepted-tree c))
 -- the group check asks for bits below the number of members
 group : (c : tie.After-check-group)
     → checkOf (c .check-group .result)
-    ≡ groupCheck (memberCount (network (treeOf (now (c .before .before .before .before .before .before .before .args .parents)) (now (c .before .before .before .before .before .before .before .args .costs))))) (c .before .before .before .before .before .before .before .args .group)
+    ≡ groupCheck (memberCount (networkOf (now (c .before .before .before .before .before .before .before .args .parents)) (now (c .before .before .before .before .before .before .before .args .costs)))) (c .before .before .before .before .before .before .before .args .group)
 group c = c .check-group .ensures ∙ ap (λ (n : ℕ). groupCheck n (c .before .before .before .before .before .before .before .args .group)) (c .before .count-members .ensures)
 
 returns-2 : tie.Need-returns-2
@@ -40,7 +40,7 @@ returns-2 c =
     rw (accepted-tree (c .before .before .before .before .before), turned-away (group (c .before .before .before)) (c .before .enum-told4 .given .1) (c .refusal-of2 .ensures))
 
 accepted-group : (c : tie.After-enum-told3)
-    → groupCheck (memberCount (network (treeOf (now (c .before .before .before .before .before .before .before .before .before .args .parents)) (now (c .before .before .before .before .before .before .before .before .before .args .costs))))) (c .before .before .before .before .before .before .before .before .before .args .group) ≡ accepted
+    → groupCheck (memberCount (networkOf (now (c .before .before .before .before .before .before .before .before .before .args .parents)) (now (c .before .before .before .before .before .before .before .before .before .args .costs)))) (c .before .before .before .before .before .before .before .before .before .args .group) ≡ accepted
 accepted-group c = opened (group (c .before .before)) (c .enum-told3 .given .1)
 
 cost-of-requires : tie.Need-cost-of-requires

@@ -4,7 +4,7 @@ use lib.ListN.{length}
 use denote.Ref.{now}
 use borrow.Author.Needs.{needs}
 use Rattle.game.specs.Network.{memberCount}
-use Rattle.game.specs.Tree.{treeOf, network}
+use Rattle.game.specs.Tree.{treeOf, networkOf}
 use Rattle.answer_forms.specs.Answer.{accepted}
 use Rattle.answers.specs.Checks.{treeCheck, lengthCheck}
 use Rattle.answers.specs.Members.{membersAnswer, membersList}
@@ -31,7 +31,7 @@ count-members-requires c κs = sound _ (tree-accepted _ (accepted-tree c))
 -- the output check asks for as many places as there are members
 output : (c : tie.After-check-output)
     → checkOf (c .check-output .result)
-    ≡ lengthCheck (memberCount (network (treeOf (now (c .before .before .before .before .before .before .before .before .args .parents)) (now (c .before .before .before .before .before .before .before .before .args .costs)))))
+    ≡ lengthCheck (memberCount (networkOf (now (c .before .before .before .before .before .before .before .before .args .parents)) (now (c .before .before .before .before .before .before .before .before .args .costs))))
     (length (now (c .before .before .before .before .before .before .before .before .args .out)))
 output c =
     c .check-output .ensures
@@ -45,7 +45,7 @@ returns-2 c =
     (rw (tree, away), rw (tree, away))
 
 accepted-output : (c : tie.After-enum-told3)
-    → lengthCheck (memberCount (network (treeOf (now (c .before .before .before .before .before .before .before .before .before .before .args .parents)) (now (c .before .before .before .before .before .before .before .before .before .before .args .costs)))))
+    → lengthCheck (memberCount (networkOf (now (c .before .before .before .before .before .before .before .before .before .before .args .parents)) (now (c .before .before .before .before .before .before .before .before .before .before .args .costs))))
     (length (now (c .before .before .before .before .before .before .before .before .before .before .args .out)))
     ≡ accepted
 accepted-output c = opened (output (c .before .before)) (c .enum-told3 .given .1)

@@ -3,7 +3,7 @@ use mathlib.Core.Path.{_≡_, sym, ap, _∙_, subst}
 use lib.ListN.{length}
 use denote.Ref.{now}
 use Rattle.game.specs.Network.{memberCount}
-use Rattle.game.specs.Tree.{treeOf, network, ofArc}
+use Rattle.game.specs.Tree.{networkOf, ofArc}
 use Rattle.game.specs.Level.{level}
 use Rattle.answers.specs.Level.{LevelAnswer, split, shortArc, splitOr9, listAfter}
 use Rattle.tree.specs.Passes.{Capped}
@@ -20,30 +20,30 @@ write-members-requires : tie.Need-write-members-requires
 write-members-requires c κs = let pre = c .before .before .before .before .before .before .pre in (sound _ (tree-accepted _ (pre .0)), pre .1 .1 .0)
 
 -- the vertices are written, one a member
-written : (c : tie.After-write-members) → length (c .write-members .last .1 .0) ≡ (memberCount (network (treeOf (now (c .before .before .before .before .before .before .before .args .parents)) (now (c .before .before .before .before .before .before .before .args .costs)))))
+written : (c : tie.After-write-members) → length (c .write-members .last .1 .0) ≡ (memberCount (networkOf (now (c .before .before .before .before .before .before .before .args .parents)) (now (c .before .before .before .before .before .before .before .args .costs))))
 written c = c .write-members .kept .1 .0 ∙ c .before .before .before .before .before .before .before .pre .1 .1 .0
 
 capped : (c : tie.After-write-members) → Capped (length (c .write-members .last .1 .0)) (now (c .before .before .before .before .before .before .before .args .caps))
-capped c = subst (λ (n : ℕ). Capped n (now (c .before .before .before .before .before .before .before .args .caps))) (sym (written c)) (caps-accepted (memberCount (network (treeOf (now (c .before .before .before .before .before .before .before .args .parents)) (now (c .before .before .before .before .before .before .before .args .costs))))) (now (c .before .before .before .before .before .before .before .args .caps)) (c .before .before .before .before .before .before .before .pre .1 .0))
+capped c = subst (λ (n : ℕ). Capped n (now (c .before .before .before .before .before .before .before .args .caps))) (sym (written c)) (caps-accepted (memberCount (networkOf (now (c .before .before .before .before .before .before .before .args .parents)) (now (c .before .before .before .before .before .before .before .args .costs)))) (now (c .before .before .before .before .before .before .before .args .caps)) (c .before .before .before .before .before .before .before .pre .1 .0))
 
 find-short-requires : tie.Need-find-short-requires
 find-short-requires c κs = (c .before .before .before .before .before .before .before .before .before .before .pre .0, (c .before .before .before .write-members .ensures, capped (c .before .before .before)))
 
 returns : tie.Need-returns
 returns c =
-    let n = network (treeOf (now (c .before .before .before .before .before .before .before .before .before .before .before .before .before .before .args .parents)) (now (c .before .before .before .before .before .before .before .before .before .before .before .before .before .before .args .costs))) in
+    let n = networkOf (now (c .before .before .before .before .before .before .before .before .before .before .before .before .before .before .args .parents)) (now (c .before .before .before .before .before .before .before .before .before .before .before .before .before .before .args .costs)) in
     let found = c .before .before .before .find-short in (
       c .answer .ensures ∙ ap (λ (m : ℕ). answerOf m (found .result)) (written (c .before .before .before .before .before .before .before)) ∙ found .ensures,
       sym (ap (λ (a : LevelAnswer). listAfter a (now (c .before .before .before .before .before .before .before .before .before .before .before .before .before .before .args .out)) (level n (now (c .before .before .before .before .before .before .before .before .before .before .before .before .before .before .args .caps)) (ofArc (now (c .before .before .before .before .before .before .before .before .before .before .before .before .before .before .args .costs))))) (c .answer .ensures ∙ ap (answerOf _) (c .before .enum-told2 .given .1))),
     )
 
 -- no arc is short
-enough : (c : tie.After-enum-told) → split (memberCount (network (treeOf (now (c .before .before .before .before .before .before .before .before .before .before .before .before .before .args .parents)) (now (c .before .before .before .before .before .before .before .before .before .before .before .before .before .args .costs))))) ≡ splitOr9 (network (treeOf (now (c .before .before .before .before .before .before .before .before .before .before .before .before .before .args .parents)) (now (c .before .before .before .before .before .before .before .before .before .before .before .before .before .args .costs)))) (now (c .before .before .before .before .before .before .before .before .before .before .before .before .before .args .caps)) (shortArc (network (treeOf (now (c .before .before .before .before .before .before .before .before .before .before .before .before .before .args .parents)) (now (c .before .before .before .before .before .before .before .before .before .before .before .before .before .args .costs)))) (now (c .before .before .before .before .before .before .before .before .before .before .before .before .before .args .caps)) (length (now (c .before .before .before .before .before .before .before .before .before .before .before .before .before .args .parents))))
-enough c = ap (answerOf (memberCount (network (treeOf (now (c .before .before .before .before .before .before .before .before .before .before .before .before .before .args .parents)) (now (c .before .before .before .before .before .before .before .before .before .before .before .before .before .args .costs)))))) (sym (c .enum-told .given .1)) ∙ c .before .before .find-short .ensures
+enough : (c : tie.After-enum-told) → split (memberCount (networkOf (now (c .before .before .before .before .before .before .before .before .before .before .before .before .before .args .parents)) (now (c .before .before .before .before .before .before .before .before .before .before .before .before .before .args .costs)))) ≡ splitOr9 (networkOf (now (c .before .before .before .before .before .before .before .before .before .before .before .before .before .args .parents)) (now (c .before .before .before .before .before .before .before .before .before .before .before .before .before .args .costs))) (now (c .before .before .before .before .before .before .before .before .before .before .before .before .before .args .caps)) (shortArc (networkOf (now (c .before .before .before .before .before .before .before .before .before .before .before .before .before .args .parents)) (now (c .before .before .before .before .before .before .before .before .before .before .before .before .before .args .costs))) (now (c .before .before .before .before .before .before .before .before .before .before .before .before .before .args .caps)) (length (now (c .before .before .before .before .before .before .before .before .before .before .before .before .before .args .parents))))
+enough c = ap (answerOf (memberCount (networkOf (now (c .before .before .before .before .before .before .before .before .before .before .before .before .before .args .parents)) (now (c .before .before .before .before .before .before .before .before .before .before .before .before .before .args .costs))))) (sym (c .enum-told .given .1)) ∙ c .before .before .find-short .ensures
 
 split-arcs-requires : tie.Need-split-arcs-requires
 split-arcs-requires c κs =
-    (c .before .before .before .before .before .before .before .before .before .before .before .before .before .before .before .pre .0, (c .before .before .before .before .before .before .before .before .write-members .ensures, (capped (c .before .before .before .before .before .before .before .before), (c .before .before .before .before .before .before .before .before .before .before .before .before .before .before .before .pre .1 .1 .1 ∙ sym (written (c .before .before .before .before .before .before .before .before)), none-short (network (treeOf (now (c .before .before .before .before .before .before .before .before .before .before .before .before .before .before .before .args .parents)) (now (c .before .before .before .before .before .before .before .before .before .before .before .before .before .before .before .args .costs)))) (now (c .before .before .before .before .before .before .before .before .before .before .before .before .before .before .before .args .caps)) _ (enough (c .before .before))))))
+    (c .before .before .before .before .before .before .before .before .before .before .before .before .before .before .before .pre .0, (c .before .before .before .before .before .before .before .before .write-members .ensures, (capped (c .before .before .before .before .before .before .before .before), (c .before .before .before .before .before .before .before .before .before .before .before .before .before .before .before .pre .1 .1 .1 ∙ sym (written (c .before .before .before .before .before .before .before .before)), none-short (networkOf (now (c .before .before .before .before .before .before .before .before .before .before .before .before .before .before .before .args .parents)) (now (c .before .before .before .before .before .before .before .before .before .before .before .before .before .before .before .args .costs))) (now (c .before .before .before .before .before .before .before .before .before .before .before .before .before .before .before .args .caps)) _ (enough (c .before .before))))))
 
 returns-2 : tie.Need-returns-2
 returns-2 c =

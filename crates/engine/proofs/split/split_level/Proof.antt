@@ -5,7 +5,7 @@ use lib.ListN.{length}
 use denote.Ref.{now}
 use Rattle.limits.specs.Limits.{mostArcs}
 use Rattle.game.specs.Network.{memberCount}
-use Rattle.game.specs.Tree.{treeOf, network}
+use Rattle.game.specs.Tree.{treeOf, networkOf}
 use Rattle.answer_forms.specs.Answer.{accepted}
 use Rattle.answers.specs.Checks.{treeCheck, lengthCheck}
 use Rattle.answers.specs.Level.{capsCheck}
@@ -32,7 +32,7 @@ count-members-requires : tie.Need-count-members-requires
 count-members-requires c κs = sound _ (tree-accepted _ (accepted-tree c))
 
 -- the caps check asks for a cap a member
-caps-found : (c : tie.After-check-caps) → checkOf (c .check-caps .result) ≡ capsCheck (memberCount (network (treeOf (now (c .before .before .before .before .before .before .before .before .before .args .parents)) (now (c .before .before .before .before .before .before .before .before .before .args .costs))))) (now (c .before .before .before .before .before .before .before .before .before .args .caps))
+caps-found : (c : tie.After-check-caps) → checkOf (c .check-caps .result) ≡ capsCheck (memberCount (networkOf (now (c .before .before .before .before .before .before .before .before .before .args .parents)) (now (c .before .before .before .before .before .before .before .before .before .args .costs)))) (now (c .before .before .before .before .before .before .before .before .before .args .caps))
 caps-found c = c .check-caps .ensures ∙ ap (λ (n : ℕ). capsCheck n (now (c .before .before .before .before .before .before .before .before .before .args .caps))) (c .before .count-members .ensures)
 
 returns-2 : tie.Need-returns-2
@@ -40,11 +40,11 @@ returns-2 c =
     let away = turned-away (caps-found (c .before .before .before .before)) (c .before .before .enum-told4 .given .1) (c .before .refusal-of2 .ensures) in
     caps-turned-down (treeOf (now (c .before .before .before .before .before .before .before .before .before .before .before .before .before .args .parents)) (now (c .before .before .before .before .before .before .before .before .before .before .before .before .before .args .costs))) (now (c .before .before .before .before .before .before .before .before .before .before .before .before .before .args .caps)) (now (c .before .before .before .before .before .before .before .before .before .before .before .before .before .args .out)) (accepted-tree (c .before .before .before .before .before .before)) away (c .refused2 .ensures)
 
-accepted-caps : (c : tie.After-enum-told3) → capsCheck (memberCount (network (treeOf (now (c .before .before .before .before .before .before .before .before .before .before .before .args .parents)) (now (c .before .before .before .before .before .before .before .before .before .before .before .args .costs))))) (now (c .before .before .before .before .before .before .before .before .before .before .before .args .caps)) ≡ accepted
+accepted-caps : (c : tie.After-enum-told3) → capsCheck (memberCount (networkOf (now (c .before .before .before .before .before .before .before .before .before .before .before .args .parents)) (now (c .before .before .before .before .before .before .before .before .before .before .before .args .costs)))) (now (c .before .before .before .before .before .before .before .before .before .before .before .args .caps)) ≡ accepted
 accepted-caps c = opened (caps-found (c .before .before)) (c .enum-told3 .given .1)
 
 -- the output check asks for as many places as there are members
-output-found : (c : tie.After-check-output) → checkOf (c .check-output .result) ≡ lengthCheck (memberCount (network (treeOf (now (c .before .before .before .before .before .before .before .before .before .before .before .before .args .parents)) (now (c .before .before .before .before .before .before .before .before .before .before .before .before .args .costs))))) (length (now (c .before .before .before .before .before .before .before .before .before .before .before .before .args .out)))
+output-found : (c : tie.After-check-output) → checkOf (c .check-output .result) ≡ lengthCheck (memberCount (networkOf (now (c .before .before .before .before .before .before .before .before .before .before .before .before .args .parents)) (now (c .before .before .before .before .before .before .before .before .before .before .before .before .args .costs)))) (length (now (c .before .before .before .before .before .before .before .before .before .before .before .before .args .out)))
 output-found c = c .check-output .ensures ∙ ap (λ (n : ℕ). lengthCheck n (length (now (c .before .before .before .before .before .before .before .before .before .before .before .before .args .out)))) (c .before .before .before .before .count-members .ensures)
 
 returns-3 : tie.Need-returns-3
@@ -52,7 +52,7 @@ returns-3 c =
     let away = turned-away (output-found (c .before .before .before .before)) (c .before .before .enum-told6 .given .1) (c .before .refusal-of3 .ensures) in
     output-turned-down (treeOf (now (c .before .before .before .before .before .before .before .before .before .before .before .before .before .before .before .before .args .parents)) (now (c .before .before .before .before .before .before .before .before .before .before .before .before .before .before .before .before .args .costs))) (now (c .before .before .before .before .before .before .before .before .before .before .before .before .before .before .before .before .args .caps)) (now (c .before .before .before .before .before .before .before .before .before .before .before .before .before .before .before .before .args .out)) (accepted-tree (c .before .before .before .before .before .before .before .before .before)) (accepted-caps (c .before .before .before .before .before)) away (c .refused3 .ensures)
 
-accepted-output : (c : tie.After-enum-told5) → lengthCheck (memberCount (network (treeOf (now (c .before .before .before .before .before .before .before .before .before .before .before .before .before .before .args .parents)) (now (c .before .before .before .before .before .before .before .before .before .before .before .before .before .before .args .costs))))) (length (now (c .before .before .before .before .before .before .before .before .before .before .before .before .before .before .args .out))) ≡ accepted
+accepted-output : (c : tie.After-enum-told5) → lengthCheck (memberCount (networkOf (now (c .before .before .before .before .before .before .before .before .before .before .before .before .before .before .args .parents)) (now (c .before .before .before .before .before .before .before .before .before .before .before .before .before .before .args .costs)))) (length (now (c .before .before .before .before .before .before .before .before .before .before .before .before .before .before .args .out))) ≡ accepted
 accepted-output c = opened (output-found (c .before .before)) (c .enum-told5 .given .1)
 
 few-members : (c : tie.After-enum-told5) → c .before .before .before .before .before .before .count-members .result ≤ mostArcs

@@ -9,7 +9,7 @@ use mir.Syntax.{w64}
 use mir.Facts.{toZ-ofZ}
 use Rattle.basics.specs.Sum.{sum}
 use Rattle.game.specs.Network.{memberCount, wholeCost}
-use Rattle.game.specs.Tree.{treeOf, network, ofArc}
+use Rattle.game.specs.Tree.{treeOf, networkOf, ofArc}
 use Rattle.answer_forms.specs.Answer.{accepted, value}
 use Rattle.answers.specs.Checks.{treeCheck, proposalCheck, outsideShare}
 use Rattle.answers.specs.Audit.{auditCheck, wrongTotal}
@@ -37,7 +37,7 @@ count-members-requires : tie.Need-count-members-requires
 count-members-requires c κs = sound _ (tree-accepted _ (accepted-tree c))
 
 -- the proposal check asks for a share a member
-shares : (c : tie.After-check-proposal) → checkOf (c .check-proposal .result) ≡ proposalCheck (memberCount (network (treeOf (now (c .before .before .before .before .before .before .before .args .parents)) (now (c .before .before .before .before .before .before .before .args .costs))))) (now (c .before .before .before .before .before .before .before .args .proposal))
+shares : (c : tie.After-check-proposal) → checkOf (c .check-proposal .result) ≡ proposalCheck (memberCount (networkOf (now (c .before .before .before .before .before .before .before .args .parents)) (now (c .before .before .before .before .before .before .before .args .costs)))) (now (c .before .before .before .before .before .before .before .args .proposal))
 shares c = c .check-proposal .ensures ∙ ap (λ (n : ℕ). proposalCheck n (now (c .before .before .before .before .before .before .before .args .proposal))) (c .before .count-members .ensures)
 
 returns-2 : tie.Need-returns-2
@@ -46,13 +46,13 @@ returns-2 c =
     let answer = shares-turned-down (treeOf (now (c .before .before .before .before .before .before .before .before .before .before .before .args .parents)) (now (c .before .before .before .before .before .before .before .before .before .before .before .args .costs))) (now (c .before .before .before .before .before .before .before .before .before .before .before .args .proposal)) (accepted-tree (c .before .before .before .before .before .before)) away in
     (c .refused2 .ensures .0 ∙ answer, c .refused2 .ensures .1 ∙ words-beside (treeOf (now (c .before .before .before .before .before .before .before .before .before .before .before .args .parents)) (now (c .before .before .before .before .before .before .before .before .before .before .before .args .costs))) (now (c .before .before .before .before .before .before .before .before .before .before .before .args .proposal)) answer)
 
-accepted-shares : (c : tie.After-enum-told3) → proposalCheck (memberCount (network (treeOf (now (c .before .before .before .before .before .before .before .before .before .args .parents)) (now (c .before .before .before .before .before .before .before .before .before .args .costs))))) (now (c .before .before .before .before .before .before .before .before .before .args .proposal)) ≡ accepted
+accepted-shares : (c : tie.After-enum-told3) → proposalCheck (memberCount (networkOf (now (c .before .before .before .before .before .before .before .before .before .args .parents)) (now (c .before .before .before .before .before .before .before .before .before .args .costs)))) (now (c .before .before .before .before .before .before .before .before .before .args .proposal)) ≡ accepted
 accepted-shares c = opened (shares (c .before .before)) (c .enum-told3 .given .1)
 
 accepted-audit : (c : tie.After-enum-told3) → auditCheck (treeOf (now (c .before .before .before .before .before .before .before .before .before .args .parents)) (now (c .before .before .before .before .before .before .before .before .before .args .costs))) (now (c .before .before .before .before .before .before .before .before .before .args .proposal)) ≡ accepted
 accepted-audit c = rw (accepted-tree (c .before .before .before .before), accepted-shares c)
 
-one-a-member : (c : tie.After-enum-told3) → length (now (c .before .before .before .before .before .before .before .before .before .args .proposal)) ≡ memberCount (network (treeOf (now (c .before .before .before .before .before .before .before .before .before .args .parents)) (now (c .before .before .before .before .before .before .before .before .before .args .costs))))
+one-a-member : (c : tie.After-enum-told3) → length (now (c .before .before .before .before .before .before .before .before .before .args .proposal)) ≡ memberCount (networkOf (now (c .before .before .before .before .before .before .before .before .before .args .parents)) (now (c .before .before .before .before .before .before .before .before .before .args .costs)))
 one-a-member c = list-accepted outsideShare (pos 0) _ (now (c .before .before .before .before .before .before .before .before .before .args .proposal)) refl (accepted-shares c) .same
 
 parts-of-requires : tie.Need-parts-of-requires
@@ -64,7 +64,7 @@ whole-cost-requires c κs =
     let ok = tree-accepted _ (accepted-tree (c .before .before .before .before .before)) in omega (arith, ok .few, ok .same)
 
 -- the whole cost, and that both sides of the total are small
-whole : (c : tie.After-whole-cost) → c .whole-cost .result ≡ wholeCost (network (treeOf (now (c .before .before .before .before .before .before .before .before .before .before .before .args .parents)) (now (c .before .before .before .before .before .before .before .before .before .before .before .args .costs))))
+whole : (c : tie.After-whole-cost) → c .whole-cost .result ≡ wholeCost (networkOf (now (c .before .before .before .before .before .before .before .before .before .before .before .args .parents)) (now (c .before .before .before .before .before .before .before .before .before .before .before .args .costs)))
 unfolding wholeCost
 whole c =
     let ok = tree-accepted _ (accepted-tree (c .before .before .before .before .before .before)) in
@@ -83,7 +83,7 @@ search-verdict-requires c κs = accepted-audit (c .before .before .before .befor
 returns-3 : tie.Need-returns-3
 returns-3 c =
     let sums = c .before .before .before .before .parts-of .ensures in
-    let right = adds-up (network (treeOf (now (c .before .before .before .before .before .before .before .before .before .before .before .before .before .before .args .parents)) (now (c .before .before .before .before .before .before .before .before .before .before .before .before .before .before .args .costs)))) (now (c .before .before .before .before .before .before .before .before .before .before .before .before .before .before .args .proposal)) (one-a-member (c .before .before .before .before .before)) (sums .plus-is) (sums .minus-is) (c .before .if1 .taken ∙ ap (λ (w : ℕ). c .before .before .before .before .parts-of .result .minus + w) (whole (c .before .before .before))) in
+    let right = adds-up (networkOf (now (c .before .before .before .before .before .before .before .before .before .before .before .before .before .before .args .parents)) (now (c .before .before .before .before .before .before .before .before .before .before .before .before .before .before .args .costs))) (now (c .before .before .before .before .before .before .before .before .before .before .before .before .before .before .args .proposal)) (one-a-member (c .before .before .before .before .before)) (sums .plus-is) (sums .minus-is) (c .before .if1 .taken ∙ ap (λ (w : ℕ). c .before .before .before .before .parts-of .result .minus + w) (whole (c .before .before .before))) in
     let answer = c .search-verdict .ensures .0 ∙ right-total (treeOf (now (c .before .before .before .before .before .before .before .before .before .before .before .before .before .before .args .parents)) (now (c .before .before .before .before .before .before .before .before .before .before .before .before .before .before .args .costs))) (now (c .before .before .before .before .before .before .before .before .before .before .before .before .before .before .args .proposal)) (accepted-audit (c .before .before .before .before .before)) right in
     (answer, c .search-verdict .ensures .1 ∙ words-beside (treeOf (now (c .before .before .before .before .before .before .before .before .before .before .before .before .before .before .args .parents)) (now (c .before .before .before .before .before .before .before .before .before .before .before .before .before .before .args .costs))) (now (c .before .before .before .before .before .before .before .before .before .before .before .before .before .before .args .proposal)) answer)
 
@@ -94,8 +94,8 @@ returns-4 : tie.Need-returns-4
 returns-4 c =
     let sums = c .before .before .before .before .parts-of .ensures in
     let is-whole = whole (c .before .before .before) in
-    let off = not-zero (network (treeOf (now (c .before .before .before .before .before .before .before .before .before .before .before .before .before .before .args .parents)) (now (c .before .before .before .before .before .before .before .before .before .before .before .before .before .before .args .costs)))) (now (c .before .before .before .before .before .before .before .before .before .before .before .before .before .before .args .proposal)) (one-a-member (c .before .before .before .before .before)) (sums .plus-is) (sums .minus-is) (λ e. c .before .if1 .left (e ∙ ap (λ (w : ℕ). c .before .before .before .before .parts-of .result .minus + w) (sym is-whole))) in
-    let by = off-by (network (treeOf (now (c .before .before .before .before .before .before .before .before .before .before .before .before .before .before .args .parents)) (now (c .before .before .before .before .before .before .before .before .before .before .before .before .before .before .args .costs)))) (now (c .before .before .before .before .before .before .before .before .before .before .before .before .before .before .args .proposal)) (one-a-member (c .before .before .before .before .before)) (sums .plus-is) (sums .minus-is) in
+    let off = not-zero (networkOf (now (c .before .before .before .before .before .before .before .before .before .before .before .before .before .before .args .parents)) (now (c .before .before .before .before .before .before .before .before .before .before .before .before .before .before .args .costs))) (now (c .before .before .before .before .before .before .before .before .before .before .before .before .before .before .args .proposal)) (one-a-member (c .before .before .before .before .before)) (sums .plus-is) (sums .minus-is) (λ e. c .before .if1 .left (e ∙ ap (λ (w : ℕ). c .before .before .before .before .parts-of .result .minus + w) (sym is-whole))) in
+    let by = off-by (networkOf (now (c .before .before .before .before .before .before .before .before .before .before .before .before .before .before .args .parents)) (now (c .before .before .before .before .before .before .before .before .before .before .before .before .before .before .args .costs))) (now (c .before .before .before .before .before .before .before .before .before .before .before .before .before .before .args .proposal)) (one-a-member (c .before .before .before .before .before)) (sums .plus-is) (sums .minus-is) in
     let given = toZ-ofZ {w = w64} (record { sfits = c .less .ok }) ∙ c .less .ensures ∙ ap (λ (w : ℕ). subℕ (c .before .before .before .before .parts-of .result .plus) (c .before .before .before .before .parts-of .result .minus + w)) is-whole ∙ sym by in
     let answer = ap (λ (d : ℤ). value (wrongTotal d)) given ∙ off-total (treeOf (now (c .before .before .before .before .before .before .before .before .before .before .before .before .before .before .args .parents)) (now (c .before .before .before .before .before .before .before .before .before .before .before .before .before .before .args .costs))) (now (c .before .before .before .before .before .before .before .before .before .before .before .before .before .before .args .proposal)) (accepted-audit (c .before .before .before .before .before)) off in
     (answer, words-beside (treeOf (now (c .before .before .before .before .before .before .before .before .before .before .before .before .before .before .args .parents)) (now (c .before .before .before .before .before .before .before .before .before .before .before .before .before .before .args .costs))) (now (c .before .before .before .before .before .before .before .before .before .before .before .before .before .before .args .proposal)) answer)

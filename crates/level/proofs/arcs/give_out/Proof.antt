@@ -6,7 +6,7 @@ use lib.ListN.{length, getD, replicate}
 use denote.Ref.{now}
 use Rattle.limits.specs.Limits.{mostArcs}
 use Rattle.game.specs.Network.{memberCount}
-use Rattle.game.specs.Tree.{treeOf, network}
+use Rattle.game.specs.Tree.{treeOf, networkOf}
 use Rattle.answers.proofs.Accepted.{tree-accepted}
 use Rattle.users.proofs.Parts.{part-within, part-lists}
 use Rattle.fill.proofs.Arc.{lists-numbers}
@@ -17,7 +17,7 @@ use Rattle.level.proofs.arcs.give_out.Tie as tie
 
 abbrev Inv-loop : tie.InvT-loop
 Inv-loop parents costs caps starts counts order shares₀ k₀ shares k =
-    Ready parents costs caps starts counts order × (k ≤ length parents) × (length shares ≡ memberCount (network (treeOf parents []))) × Splitting (treeOf parents costs) caps shares k
+    Ready parents costs caps starts counts order × (k ≤ length parents) × (length shares ≡ memberCount (networkOf parents [])) × Splitting (treeOf parents costs) caps shares k
 
 abbrev μ-loop : tie.MeasureT-loop
 μ-loop parents costs caps starts counts order shares₀ k₀ shares k = k

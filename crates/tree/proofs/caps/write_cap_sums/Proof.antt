@@ -6,7 +6,7 @@ use denote.Ref.{now}
 use native.Mathlib.Omega.{arith}
 use borrow.Author.Needs.{needs}
 use Rattle.game.specs.Network.{members}
-use Rattle.game.specs.Tree.{treeOf, network}
+use Rattle.game.specs.Tree.{networkOf}
 use Rattle.basics.proofs.Sums.{In}
 use Rattle.tree.specs.Passes.{Sound}
 use Rattle.tree.proofs.CapPass.{Placing, placing-start, member-in, placing-on, placing-fits, placing-sums}
@@ -15,7 +15,7 @@ use Rattle.tree.proofs.caps.write_cap_sums.Tie as tie
 
 abbrev Inv-loop : tie.InvT-loop
 Inv-loop parents vertices caps out₀ j₀ out j =
-    Sound parents × (vertices ≡ members (network (treeOf parents []))) × Placing (network (treeOf parents [])) caps out j
+    Sound parents × (vertices ≡ members (networkOf parents [])) × Placing (networkOf parents []) caps out j
 
 abbrev μ-loop : tie.MeasureT-loop
 μ-loop parents vertices caps out₀ j₀ out j = length vertices - j
@@ -30,7 +30,7 @@ member-here : (c : tie.In-loop Inv-loop μ-loop)
     → In (length (now (c .before .before .before .before .before .before .before .before .before .before .args .parents)))
     (getD (now (c .before .before .before .before .before .before .before .before .before .before .args .vertices)) (c .before .loop .j) 0)
 member-here c =
-    member-in (network (treeOf (now (c .before .before .before .before .before .before .before .before .before .before .args .parents)) [])) (c .before .loop .inv .1) _ (c .loop-test .taken)
+    member-in (networkOf (now (c .before .before .before .before .before .before .before .before .before .before .args .parents)) []) (c .before .loop .inv .1) _ (c .loop-test .taken)
 
 cast-place : tie.Need-cast-place Inv-loop μ-loop
 cast-place c = omega (arith, c .shared-slice-known4 .given (c .before .before .loop .j))

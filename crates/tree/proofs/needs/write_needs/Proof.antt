@@ -6,7 +6,7 @@ use native.Mathlib.Omega.{arith}
 use borrow.Author.Needs.{needs}
 use Rattle.basics.specs.Sum.{sum, list}
 use Rattle.game.specs.Network.{sumBelow, need, wholeCost}
-use Rattle.game.specs.Tree.{treeOf, network, ofArc}
+use Rattle.game.specs.Tree.{treeOf, networkOf, ofArc}
 use Rattle.answers.proofs.Accepted.{Accepted, tree-accepted}
 use Rattle.answers.proofs.Limits.{whole-bound}
 use Rattle.tree.proofs.Bounds.{sound}
@@ -14,12 +14,12 @@ use Rattle.tree.proofs.needs.write_needs.Statement.{statement}
 use Rattle.tree.proofs.needs.write_needs.Tie as tie
 
 module _ (ps cs : List ℕ) (ok : Accepted (treeOf ps cs)) {xs : List ℕ} (e : xs ≡ cs) where
-  whole-sum : sum (length xs) (ofArc xs) ≡ wholeCost (network (treeOf ps cs))
+  whole-sum : sum (length xs) (ofArc xs) ≡ wholeCost (networkOf ps cs)
   unfolding wholeCost
   whole-sum = rw e (ap (λ (m : ℕ). sum m (ofArc cs)) (sym (ok .same)))
 
   -- who is a member does not count
-  sums-needs : list (length ps) (sumBelow (network (treeOf ps [])) (ofArc xs)) ≡ list (length ps) (need (network (treeOf ps cs)))
+  sums-needs : list (length ps) (sumBelow (networkOf ps []) (ofArc xs)) ≡ list (length ps) (need (networkOf ps cs))
   unfolding sumBelow
   sums-needs = rw e
 
