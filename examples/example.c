@@ -67,6 +67,7 @@ int main(void) {
     audit((const int64_t[MEMBERS]){7, 5, 4});
     audit((const int64_t[MEMBERS]){8, 4, 4});
     audit((const int64_t[MEMBERS]){8, 4, 5});
+    audit((const int64_t[MEMBERS]){8, 4, 2000000000001});
     level((const uint64_t[MEMBERS]){100, 100, 100});
     level((const uint64_t[MEMBERS]){3, 8, 100});
     by_arc();

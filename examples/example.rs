@@ -58,8 +58,8 @@ unsafe extern "C" {
     ) -> ZilqodurMembers;
 }
 
-const WRONG_TOTAL: u32 = 1;
-const OBJECTION: u32 = 2;
+const WRONG_TOTAL: u32 = 2;
+const OBJECTION: u32 = 3;
 
 const PARENTS: [u16; 4] = [0, 1, 1, 0];
 const COSTS: [u32; 4] = [6, 1, 5, 4];
@@ -150,6 +150,7 @@ fn main() {
     print_audit(&[7, 5, 4]);
     print_audit(&[8, 4, 4]);
     print_audit(&[8, 4, 5]);
+    print_audit(&[8, 4, 2_000_000_000_001]);
     print_level(&[100, 100, 100]);
     print_level(&[3, 8, 100]);
     print_by_arc();

@@ -83,17 +83,17 @@ typedef struct ZilqodurGroup {
     uint64_t cost; /* the sum of the costs of all arcs that at least one of them uses */
 } ZilqodurGroup;
 
-/* Pass also stands in `verdict` when the audit is refused: look at `refusal` first. */
 enum ZilqodurVerdict {
-    ZILQODUR_PASS = 0,        /* the total is right and no group pays more than its cost */
-    ZILQODUR_WRONG_TOTAL = 1, /* the shares do not add up to the whole cost */
-    ZILQODUR_OBJECTION = 2    /* the total is right and some group pays more than its cost */
+    ZILQODUR_NO_VERDICT = 0,  /* the audit is refused */
+    ZILQODUR_PASS = 1,        /* the total is right and no group pays more than its cost */
+    ZILQODUR_WRONG_TOTAL = 2, /* the shares do not add up to the whole cost */
+    ZILQODUR_OBJECTION = 3    /* the total is right and some group pays more than its cost */
 };
 
 typedef struct ZilqodurAudit {
     uint32_t refusal;
     size_t place;
-    uint32_t verdict;   /* one of enum ZilqodurVerdict */
+    uint32_t verdict;   /* one of enum ZilqodurVerdict: 0 exactly where `refusal` is not 0 */
     int64_t difference; /* wrong total: sum of the shares less the whole cost */
     uint64_t amount;    /* objection: the greatest overpayment of a group */
     size_t size;        /* objection: the number of members in `group` */

@@ -160,13 +160,13 @@ impl Network {
         let given = ffi::audit(p.list(), c.list(), lent.list());
         let mut expected = ZilqodurAudit::default();
         match reference::audit(&self.parents, &self.costs, proposal) {
-            Ok(Verdict::Pass) => (),
+            Ok(Verdict::Pass) => expected.verdict = 1,
             Ok(Verdict::WrongTotal(difference)) => {
-                expected.verdict = 1;
+                expected.verdict = 2;
                 expected.difference = difference;
             }
             Ok(Verdict::Objection(amount, group)) => {
-                expected.verdict = 2;
+                expected.verdict = 3;
                 expected.amount = amount;
                 expected.size = group.len();
                 group

@@ -33,7 +33,8 @@ pub struct ZilqodurGroup {
     pub cost: u64,
 }
 
-/// The verdict is 0 for a pass, 1 for a wrong total, 2 for an objection.
+/// The verdict is 0 in a refusal, 1 for a pass, 2 for a wrong total, 3 for an
+/// objection.
 #[repr(C)]
 #[derive(Clone, Copy, Debug, Default, PartialEq)]
 pub struct ZilqodurAudit {

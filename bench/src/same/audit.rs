@@ -65,18 +65,21 @@ fn mark(parents: &[u16], found: &Excesses) -> [u64; 16] {
 fn verdict(parents: &[u16], costs: &[u32], proposal: &[i64]) -> Answer<ZilqodurAudit> {
     check_tree(parents, costs)?;
     check_proposal(count_members(parents), proposal)?;
-    let mut answer = ZilqodurAudit::default();
+    let mut answer = ZilqodurAudit {
+        verdict: 1,
+        ..Default::default()
+    };
     let (proposed, negative) = parts_of(proposal);
     let owed = negative + costs.iter().map(|&cost| u64::from(cost)).sum::<u64>();
     if proposed != owed {
-        answer.verdict = 1;
+        answer.verdict = 2;
         answer.difference = proposed as i64 - owed as i64;
         return Ok(answer);
     }
     let found = find_excesses(parents, costs, proposal);
     let group = mark(parents, &found);
     if found.total > 0 {
-        answer.verdict = 2;
+        answer.verdict = 3;
         answer.amount = found.total;
         answer.size = group.iter().map(|word| word.count_ones() as usize).sum();
         answer.group = group;

@@ -1,8 +1,9 @@
--- Every answer of an entry can be read back from its struct.
+-- Every answer of an entry can be read back from its struct; an audit's verdict is 0 in a refusal alone.
 use Prim.Native.Nat.{ℕ, zero, suc, _-_}
 use mathlib.Core.Path.{_≡_, refl, sym, ap, _∙_}
 use mathlib.Core.List.{List}
 use lib.ListN.{length}
+use lib.Dec.{eqb·suc-zero}
 use lib.IntN.{ℤ}
 use native.Mathlib.Omega.{arith}
 use Rattle.game.specs.Network.{Network, memberCount}
@@ -16,7 +17,7 @@ use Rattle.answers.specs.Audit.{Verdict, wrongTotal, objection, pass, auditAnsw
 use Rattle.answers.specs.Level.{LevelAnswer, outsideCap, capsCheck, shortArc, levelOr, splitOr9, levelAnswer}
 use Rattle.answers.specs.ByArc.{byArcAnswer}
 use Rattle.job.specs.Reader.{Lent, readCheck, jobAnswer}
-use Rattle.capi.specs.Structs.{encodeMembers, decodeMembers, encodeNeeds, decodeNeeds, encodeGroup, decodeGroup, encodeAudit, decodeAudit, encodeLevel, decodeLevel, encodeJob, decodeJob}
+use Rattle.capi.specs.Structs.{encodeMembers, decodeMembers, encodeNeeds, decodeNeeds, encodeGroup, decodeGroup, encodeAudit, decodeAudit, VerdictUnlessRefused, encodeLevel, decodeLevel, encodeJob, decodeJob}
 use Rattle.capi.proofs.Kept.{Kept, then-kept, tree-kept, bits-kept, list-kept, output-kept, read-kept}
 
 -- s is the struct of an answer that can be read back: what it stands for, and that its other fields are 0
@@ -65,16 +66,27 @@ group-back t words =
     answer-back encodeGroup decodeGroup (λ x. refl) (λ n place. refl) _ _
     (then-kept (treeCheck t) (groupCheck (memberCount (network t)) words) (tree-kept t) (bits-kept words (1024 - memberCount (network t)) (memberCount (network t))))
 
-verdict-back : (words : List ℕ) (v : Verdict) → decodeAudit (encodeAudit (value v) words) ≡ value v
-verdict-back words (wrongTotal difference) = refl
-verdict-back words (objection amount size) = refl
-verdict-back words pass = refl
+pub audit-back : (a : Answer Verdict) (words : List ℕ) → decodeAudit (encodeAudit a words) ≡ a
+audit-back (value (wrongTotal difference)) words = refl
+audit-back (value (objection amount size)) words = refl
+audit-back (value pass) words = refl
+audit-back (refusal number place) words = refl
 
-pub audit-back : (t : Tree) (shares : List ℤ) (words : List ℕ) → decodeAudit (encodeAudit (auditAnswer t shares) words) ≡ auditAnswer t shares
+answered-verdict : (c : Check) (v : Verdict) (words : List ℕ) → Kept c
+    → VerdictUnlessRefused (encodeAudit (answer c v) words)
+answered-verdict accepted (wrongTotal difference) words kept = refl
+answered-verdict accepted (objection amount size) words kept = refl
+answered-verdict accepted pass words kept = refl
+answered-verdict (refused zero place) v words kept = absurd (not-zero kept)
+answered-verdict (refused (suc n) place) v words kept = rw (eqb·suc-zero n)
+
+pub audit-verdict : (t : Tree) (shares : List ℤ) (words : List ℕ)
+    → VerdictUnlessRefused (encodeAudit (auditAnswer t shares) words)
 unfolding auditAnswer
-audit-back t shares words =
-    answer-back (λ (a : Answer Verdict). encodeAudit a words) decodeAudit (verdict-back words) (λ n place. refl) _ _
-    (then-kept (treeCheck t) (proposalCheck (memberCount (network t)) shares) (tree-kept t) (list-kept outsideShare (memberCount (network t)) shares))
+audit-verdict t shares words =
+    answered-verdict _ _ words
+    (then-kept (treeCheck t) (proposalCheck (memberCount (network t)) shares) (tree-kept t)
+    (list-kept outsideShare (memberCount (network t)) shares))
 
 level-or-back : (c : Check) (a : LevelAnswer) → Kept c → decodeLevel (encodeLevel a) ≡ a → decodeLevel (encodeLevel (levelOr c a)) ≡ levelOr c a
 level-or-back accepted a kept back = back

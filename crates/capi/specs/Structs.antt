@@ -1,7 +1,10 @@
 -- The struct of each answer, and the answer that a struct stands for. A refusal of 0 means that there is none.
 use Prim.Native.Nat.{ℕ, zero, suc}
+use mathlib.Core.Path.{_≡_}
+use mathlib.Core.Bool.{not}
 use mathlib.Core.List.{List}
 use lib.ListN.{length}
+use lib.Dec.{eqb}
 use lib.IntN.{ℤ, pos}
 use Rattle.answer_forms.specs.Answer.{Check, accepted, refused, Answer, value, refusal}
 use Rattle.answers.specs.Needs.{NeedsValue}
@@ -60,20 +63,26 @@ decodeGroup s = valueOr (s .refusal) (s .place) (record { size = s .size; cost =
 abbrev pub auditedStruct : (verdict : ℕ) → ℤ → (amount size : ℕ) → List ℕ → ZilqodurAudit
 auditedStruct verdict difference amount size words = record { refusal = 0; place = 0; verdict = verdict; difference = difference; amount = amount; size = size; group = words }
 
--- the verdict is 0 for pass, 1 for a wrong total, 2 for an objection
+-- the verdict is 0 in a refusal, 1 for pass, 2 for a wrong total, 3 for an objection
 abbrev pub encodeAudit : Answer Verdict → List ℕ → ZilqodurAudit
-encodeAudit (value pass) words = auditedStruct 0 (pos 0) 0 0 words
-encodeAudit (value (wrongTotal difference)) words = auditedStruct 1 difference 0 0 words
-encodeAudit (value (objection amount size)) words = auditedStruct 2 (pos 0) amount size words
+encodeAudit (value pass) words = auditedStruct 1 (pos 0) 0 0 words
+encodeAudit (value (wrongTotal difference)) words = auditedStruct 2 difference 0 0 words
+encodeAudit (value (objection amount size)) words = auditedStruct 3 (pos 0) amount size words
 encodeAudit (refusal number place) words = record { refusal = number; place = place; verdict = 0; difference = pos 0; amount = 0; size = 0; group = words }
 
-abbrev pub verdictOf : ZilqodurAudit → ℕ → Verdict
-verdictOf s zero = pass
-verdictOf s (suc zero) = wrongTotal (s .difference)
-verdictOf s (suc (suc n)) = objection (s .amount) (s .size)
+-- what the struct stands for, by its verdict
+abbrev pub auditBy : ZilqodurAudit → (verdict : ℕ) → Answer Verdict
+auditBy s zero = refusal (s .refusal) (s .place)
+auditBy s (suc zero) = value pass
+auditBy s (suc (suc zero)) = value (wrongTotal (s .difference))
+auditBy s (suc (suc (suc n))) = value (objection (s .amount) (s .size))
 
 abbrev pub decodeAudit : ZilqodurAudit → Answer Verdict
-decodeAudit s = valueOr (s .refusal) (s .place) (verdictOf s (s .verdict))
+decodeAudit s = auditBy s (s .verdict)
+
+-- the verdict is 0 exactly where the refusal is not
+abbrev pub VerdictUnlessRefused : ZilqodurAudit → Type 0
+VerdictUnlessRefused s = eqb (s .verdict) 0 ≡ not (eqb (s .refusal) 0)
 
 abbrev pub encodeLevel : LevelAnswer → ZilqodurLevel
 encodeLevel (split members) = record { refusal = 0; place = 0; shortfall = 0; members = members }

@@ -4,9 +4,10 @@ ghost use mathlib.Core.Path.{_≡_};
 ghost use Rattle.game.specs.Tree.{treeOf};
 ghost use Rattle.answers.specs.Audit.{auditAnswer, auditWords};
 ghost use Rattle.engine.specs.Outcomes.{auditOf};
-ghost use Rattle.capi.specs.Structs.{auditedStruct, encodeAudit, decodeAudit};
+ghost use Rattle.capi.specs.Structs.{auditedStruct, encodeAudit, decodeAudit, VerdictUnlessRefused};
 
-// The verdict is 0 for pass, 1 for a wrong total, 2 for an objection; 0 in a refusal too. The words are 0 except in an objection.
+// The verdict is 0 in a refusal, 1 for pass, 2 for a wrong total, 3 for an objection.
+// The words are 0 except in an objection.
 #[repr(C)]
 pub struct ZilqodurAudit {
     pub refusal: u32,
@@ -43,9 +44,9 @@ fn encode(found: AuditFound, group: [u64; 16]) -> ZilqodurAudit
     ensures { λ r. ⌜ r ≡ encodeAudit (auditOf found) group ⌝ }
 {
     match found {
-        AuditFound::Pass => audited(0, 0, 0, 0, group),
-        AuditFound::WrongTotal(difference) => audited(1, difference, 0, 0, group),
-        AuditFound::Objection { amount, size } => audited(2, 0, amount, size, group),
+        AuditFound::Pass => audited(1, 0, 0, 0, group),
+        AuditFound::WrongTotal(difference) => audited(2, difference, 0, 0, group),
+        AuditFound::Objection { amount, size } => audited(3, 0, amount, size, group),
         AuditFound::Refused(r) => ZilqodurAudit {
             refusal: r.number,
             place: r.place,
@@ -62,6 +63,7 @@ fn encode(found: AuditFound, group: [u64; 16]) -> ZilqodurAudit
 pub extern "C" fn zilqodur_audit(parents: &[u16], costs: &[u32], proposal: &[i64]) -> ZilqodurAudit
     ensures { λ r. ⌜ decodeAudit r ≡ auditAnswer (treeOf (now (parents .entry)) (now (costs .entry))) (now (proposal .entry)) ⌝ }
     ensures { λ r. ⌜ r ≡ encodeAudit (decodeAudit r) (auditWords (treeOf (now (parents .entry)) (now (costs .entry))) (now (proposal .entry))) ⌝ }
+    ensures { λ r. ⌜ VerdictUnlessRefused r ⌝ }
 {
     let audited = engine::audit(parents, costs, proposal);
     let answer = audited.answer;
