@@ -1,7 +1,7 @@
 #!/usr/bin/env bash
 # The tests beside rt ci, in groups: outside.sh [GROUP..], where the groups named are the caller's own in python3.
-# The report program runs on jobs; the examples, the test of the header, the comparison with an independent
-# implementation and the benchmark, which only compares answers here, are built with the archive and run.
+# The report program runs on jobs; the examples, the tests of the header and of the stack, the comparison with an
+# independent implementation and the benchmark, which only compares answers here, are built with the archive and run.
 # A group whose tools are missing is left out; with CI set it counts as failed. The last line says how many groups ran
 # and which were left out. Exit status: the number of groups that failed.
 set -u
@@ -12,13 +12,14 @@ archive=target/staticlib/libcapi.a
 report=target/bin/report
 report_test=tests/report.py
 header_test=tests/header.c
+stack_test=tests/stack.c
 build_rust=outside/build.sh
 benchmark=bench/src/main.rs
 least_rustc=1.82
 warnings=(-Wall -Wextra -Wpedantic -Werror)
 
 # A group is a function whose name has _ for each space in the group's.
-in_c=(C_example header_in_C)
+in_c=(C_example header_in_C stack)
 in_cpp=(header_in_C++)
 in_rust=(Rust_example comparison answers_of_the_benchmark)
 linked=("${in_c[@]}" "${in_cpp[@]}" "${in_rust[@]}")
@@ -106,6 +107,12 @@ C_example() {
 # The test of the header as C.
 header_in_C() {
     gcc -std=c99 "${warnings[@]}" -Iinclude $header_test $archive -o "$out/header_c" && "$out/header_c"
+}
+
+# The stack that the header asks for. Symbols are looked up before the program starts, so that the loader takes nothing
+# of the stack during a call.
+stack() {
+    gcc -std=gnu99 "${warnings[@]}" -Wl,-z,now -Iinclude $stack_test $archive -o "$out/stack" && "$out/stack"
 }
 
 # The test of the header as C++.

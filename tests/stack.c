@@ -1,0 +1,220 @@
+/* Calls every function of zilqodur.h on a stack that has no more bytes free than the header names, on trees of 1,023
+ * arcs and on their jobs, of which the star's is the longest that is read. Each call is made in a child process, which
+ * ends by a signal where the function takes more. Exit status 1, and a line for each such call. */
+#include "zilqodur.h"
+
+#include <alloca.h>
+#include <stdio.h>
+#include <string.h>
+#include <sys/mman.h>
+#include <sys/wait.h>
+#include <ucontext.h>
+#include <unistd.h>
+
+#define ARCS ZILQODUR_MOST_ARCS
+#define NOTE 255
+
+/* What the header asks a caller to have free, and what it says of the report and of every other function. */
+#define ASKED 100000
+#define REPORT 93000
+#define OTHER 40000
+
+/* The bytes below the stack, which may not be touched, are more than a frame has, so that none reaches past them. */
+#define GUARD (1 << 20)
+#define STACK (1 << 17)
+
+static uint16_t parents[ARCS], vertices[ARCS];
+static uint32_t costs[ARCS];
+static uint64_t caps[ARCS], out[ARCS], group[16];
+static int64_t proposal[ARCS];
+static uint8_t job[NOTE + 24 * ARCS + 16], text[ZILQODUR_REPORT_ROOM];
+static size_t members, job_bytes;
+
+static uint32_t check_tree(void) {
+    return zilqodur_check_tree(parents, ARCS, costs, ARCS).refusal;
+}
+
+static uint32_t check_caps(void) {
+    return zilqodur_check_caps(members, caps, members).refusal;
+}
+
+static uint32_t check_proposal(void) {
+    return zilqodur_check_proposal(members, proposal, members).refusal;
+}
+
+static uint32_t count_members(void) {
+    return zilqodur_count_members(parents, ARCS, costs, ARCS).refusal;
+}
+
+static uint32_t list_members(void) {
+    return zilqodur_list_members(parents, ARCS, costs, ARCS, vertices, members).refusal;
+}
+
+static uint32_t list_needs(void) {
+    return zilqodur_list_needs(parents, ARCS, costs, ARCS, out, ARCS).refusal;
+}
+
+static uint32_t group_cost(void) {
+    return zilqodur_group_cost(parents, ARCS, costs, ARCS, group).refusal;
+}
+
+static uint32_t audit(void) {
+    return zilqodur_audit(parents, ARCS, costs, ARCS, proposal, members).refusal;
+}
+
+static uint32_t split_level(void) {
+    return zilqodur_split_level(parents, ARCS, costs, ARCS, caps, members, out, members).refusal;
+}
+
+static uint32_t split_by_arc(void) {
+    return zilqodur_split_by_arc(parents, ARCS, costs, ARCS, out, members).refusal;
+}
+
+static uint32_t read_job(void) {
+    return zilqodur_read_job(job, job_bytes, parents, ARCS, costs, ARCS, caps, ARCS, proposal, ARCS).refusal;
+}
+
+/* A refused job has a short report. */
+static uint32_t report(void) {
+    return zilqodur_report(job, job_bytes, text).length < 100;
+}
+
+static const struct {
+    const char *name;
+    uint32_t (*call)(void);
+    size_t bytes;
+} functions[] = {
+    {"zilqodur_check_tree", check_tree, OTHER},
+    {"zilqodur_check_caps", check_caps, OTHER},
+    {"zilqodur_check_proposal", check_proposal, OTHER},
+    {"zilqodur_count_members", count_members, OTHER},
+    {"zilqodur_list_members", list_members, OTHER},
+    {"zilqodur_list_needs", list_needs, OTHER},
+    {"zilqodur_group_cost", group_cost, OTHER},
+    {"zilqodur_audit", audit, OTHER},
+    {"zilqodur_split_level", split_level, OTHER},
+    {"zilqodur_split_by_arc", split_by_arc, OTHER},
+    {"zilqodur_read_job", read_job, OTHER},
+    {"zilqodur_report", report, REPORT},
+};
+
+static char *lowest;
+static size_t free_bytes;
+static uint32_t (*call)(void);
+static uint32_t refusal;
+
+/* Runs on the stack whose lowest byte is known, and takes all of it but the free bytes. What this function and the one
+ * that it calls put there comes out of these, at most some 250 bytes, so that no more is free when the archive is
+ * called. */
+static void call_with_free_bytes(void) {
+    char here;
+    volatile char *taken = alloca((size_t)(&here - lowest) - free_bytes);
+    *taken = 0;
+    refusal = call();
+}
+
+static int run(void) {
+    ucontext_t before, after;
+    char *area = mmap(NULL, GUARD + STACK, PROT_READ | PROT_WRITE, MAP_PRIVATE | MAP_ANONYMOUS, -1, 0);
+    if (area == MAP_FAILED || mprotect(area, GUARD, PROT_NONE) != 0 || getcontext(&after) != 0) {
+        return 1;
+    }
+    lowest = area + GUARD;
+    after.uc_stack.ss_sp = lowest;
+    after.uc_stack.ss_size = STACK;
+    after.uc_link = &before;
+    makecontext(&after, call_with_free_bytes, 0);
+    return swapcontext(&before, &after) != 0 || refusal != 0;
+}
+
+/* Whether so many bytes are enough for the call. */
+static int enough(const char *name, size_t bytes) {
+    int status = 0;
+    pid_t child = fork();
+    if (child == 0) {
+        free_bytes = bytes;
+        _exit(run());
+    }
+    if (child < 0 || waitpid(child, &status, 0) != child || (WIFEXITED(status) && WEXITSTATUS(status) != 0)) {
+        printf("%s was not run or refused\n", name);
+        return 0;
+    }
+    if (WIFSIGNALED(status)) {
+        printf("%s takes more than %zu bytes of the stack\n", name, bytes);
+        return 0;
+    }
+    return 1;
+}
+
+static void put(uint8_t *at, uint64_t number, int width) {
+    int i;
+    for (i = 0; i < width; i++) {
+        at[i] = (uint8_t)(number >> (8 * i));
+    }
+}
+
+static void write_job(void) {
+    uint8_t *rows = job + NOTE, *member_rows = rows + 8 * ARCS, *trailer = member_rows + 16 * members;
+    size_t i;
+    memset(job, 0, sizeof job);
+    for (i = 0; i < ARCS; i++) {
+        put(rows + 8 * i, parents[i], 2);
+        put(rows + 8 * i + 4, costs[i], 4);
+    }
+    for (i = 0; i < members; i++) {
+        put(member_rows + 16 * i, caps[i], 8);
+        put(member_rows + 16 * i + 8, (uint64_t)proposal[i], 8);
+    }
+    put(trailer, NOTE, 4);
+    put(trailer + 4, NOTE + 8 * ARCS, 4);
+    put(trailer + 8, ARCS, 2);
+    put(trailer + 10, members, 2);
+    put(trailer + 12, 1, 2);
+    trailer[14] = 0x54;
+    trailer[15] = 0x4A;
+    job_bytes = (size_t)(trailer + 16 - job);
+}
+
+/* Caps that are enough, the group of all members, and a first member who pays for the whole tree: where there are
+ * others, a group objects. */
+static void write_lists(void) {
+    size_t i;
+    for (i = 0; i < ARCS; i++) {
+        costs[i] = 1000000000;
+        caps[i] = 2000000000000;
+    }
+    members = zilqodur_count_members(parents, ARCS, costs, ARCS).members;
+    proposal[0] = INT64_C(1000000000) * ARCS;
+    memset(group, 0, sizeof group);
+    for (i = 0; i < members; i++) {
+        group[i / 64] |= UINT64_C(1) << (i % 64);
+    }
+    write_job();
+}
+
+/* How many functions failed on the tree. */
+static int try_all(void) {
+    int failed = 0;
+    size_t i;
+    write_lists();
+    for (i = 0; i < sizeof functions / sizeof functions[0]; i++) {
+        call = functions[i].call;
+        failed += !enough(functions[i].name, functions[i].bytes) || !enough(functions[i].name, ASKED);
+    }
+    return failed;
+}
+
+/* A star, a path, and a path with a dead end at each of its vertices. */
+int main(void) {
+    int failed = try_all();
+    uint16_t k;
+    for (k = 0; k < ARCS; k++) {
+        parents[k] = k;
+    }
+    failed += try_all();
+    for (k = 2; k < ARCS; k += 2) {
+        parents[k] = (uint16_t)(k - 1);
+    }
+    failed += try_all();
+    return failed > 0;
+}
