@@ -6,12 +6,14 @@ use Rattle.engine.proofs.divide.divide.Statement.{statement}
 use Rattle.engine.proofs.divide.divide.Tie as tie
 
 write-members-requires : tie.Need-write-members-requires
-write-members-requires c κs = let pre = c .before .before .before .before .before .pre in (sound _ (tree-accepted _ (pre .0)), pre .1 .0)
+write-members-requires c κs =
+    let pre = c .before .before .before .before .before .pre in (sound _ (tree-accepted _ (pre .0)), pre .1 .0)
 
 split-arcs-requires : tie.Need-split-arcs-requires
 split-arcs-requires c κs =
     let pre = c .before .before .before .before .before .before .before .before .before .before .pre in
-    let written = c .before .before .before .before .write-members in (pre .0, (written .ensures, pre .1 .1 ∙ sym (written .kept .1 .0 ∙ pre .1 .0)))
+    let written = c .before .before .before .before .write-members in
+    (pre .0, (written .ensures, pre .1 .1 ∙ sym (written .kept .1 .0 ∙ pre .1 .0)))
 
 pub divide-spec : {M : Type 1} → statement M
 divide-spec =

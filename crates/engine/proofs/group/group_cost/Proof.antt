@@ -3,8 +3,8 @@ use mathlib.Core.Path.{_≡_, ap, _∙_}
 use denote.Ref.{now}
 use native.Mathlib.Omega.{arith}
 use borrow.Author.Needs.{needs}
-use Rattle.game.specs.Network.{memberCount}
-use Rattle.game.specs.Tree.{treeOf, networkOf}
+use Rattle.game.specs.Network.{memberCount, Network}
+use Rattle.game.specs.Tree.{treeOf, Tree, network}
 use Rattle.answer_forms.specs.Answer.{accepted}
 use Rattle.answers.specs.Checks.{treeCheck, groupCheck}
 use Rattle.answers.specs.GroupCost.{groupCostAnswer}
@@ -17,12 +17,30 @@ use Rattle.tree.proofs.Bounds.{sound}
 use Rattle.engine.proofs.group.group_cost.Statement.{statement}
 use Rattle.engine.proofs.group.group_cost.Tie as tie
 
+-- what is handed in, and the start from later places
+abbrev tree : tie.Start → Tree
+tree s = treeOf (now (s .args .parents)) (now (s .args .costs))
+
+abbrev net : tie.Start → Network
+net s = network (tree s)
+
+abbrev start-told : tie.After-enum-told → tie.Start
+start-told c = c .before .before .before .before .before
+
+abbrev start-check-group : tie.After-check-group → tie.Start
+start-check-group c = c .before .before .before .before .before .before .before
+
+abbrev start-told3 : tie.After-enum-told3 → tie.Start
+start-told3 c = c .before .before .before .before .before .before .before .before .before
+
 returns : tie.Need-returns
 unfolding groupCostAnswer
-returns c = rw (turned-away (c .before .before .before .check-tree .ensures) (c .before .enum-told2 .given .1) (c .refusal-of .ensures))
+returns c =
+    rw (turned-away (c .before .before .before .check-tree .ensures) (c .before .enum-told2 .given .1)
+    (c .refusal-of .ensures))
 
 accepted-tree : (c : tie.After-enum-told)
-    → treeCheck (treeOf (now (c .before .before .before .before .before .args .parents)) (now (c .before .before .before .before .before .args .costs))) ≡ accepted
+    → treeCheck (tree (start-told c)) ≡ accepted
 accepted-tree c = opened (c .before .before .check-tree .ensures) (c .enum-told .given .1)
 
 count-members-requires : tie.Need-count-members-requires
@@ -31,20 +49,28 @@ count-members-requires c κs = sound _ (tree-accepted _ (accepted-tree c))
 -- the group check asks for bits below the number of members
 group : (c : tie.After-check-group)
     → checkOf (c .check-group .result)
-    ≡ groupCheck (memberCount (networkOf (now (c .before .before .before .before .before .before .before .args .parents)) (now (c .before .before .before .before .before .before .before .args .costs)))) (c .before .before .before .before .before .before .before .args .group)
-group c = c .check-group .ensures ∙ ap (λ (n : ℕ). groupCheck n (c .before .before .before .before .before .before .before .args .group)) (c .before .count-members .ensures)
+    ≡ groupCheck (memberCount (net (start-check-group c))) ((start-check-group c) .args .group)
+group c =
+    c .check-group .ensures
+    ∙ ap (λ (n : ℕ). groupCheck n ((start-check-group c) .args .group)) (c .before .count-members .ensures)
 
 returns-2 : tie.Need-returns-2
 unfolding groupCostAnswer
 returns-2 c =
-    rw (accepted-tree (c .before .before .before .before .before), turned-away (group (c .before .before .before)) (c .before .enum-told4 .given .1) (c .refusal-of2 .ensures))
+    rw (
+      accepted-tree (c .before .before .before .before .before),
+      turned-away (group (c .before .before .before)) (c .before .enum-told4 .given .1) (c .refusal-of2 .ensures),
+    )
 
 accepted-group : (c : tie.After-enum-told3)
-    → groupCheck (memberCount (networkOf (now (c .before .before .before .before .before .before .before .before .before .args .parents)) (now (c .before .before .before .before .before .before .before .before .before .args .costs)))) (c .before .before .before .before .before .before .before .before .before .args .group) ≡ accepted
+    → groupCheck (memberCount (net (start-told3 c))) ((start-told3 c) .args .group) ≡ accepted
 accepted-group c = opened (group (c .before .before)) (c .enum-told3 .given .1)
 
 cost-of-requires : tie.Need-cost-of-requires
-cost-of-requires c κs = (accepted-tree (c .before .before .before .before .before), c .before .before .before .before .count-members .ensures)
+cost-of-requires c κs = (
+  accepted-tree (c .before .before .before .before .before),
+  c .before .before .before .before .count-members .ensures,
+)
 
 returns-3 : tie.Need-returns-3
 unfolding groupCostAnswer

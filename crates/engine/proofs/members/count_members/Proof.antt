@@ -1,7 +1,7 @@
 use mathlib.Core.Path.{_≡_}
 use denote.Ref.{now}
 use borrow.Author.Needs.{needs}
-use Rattle.game.specs.Tree.{treeOf}
+use Rattle.game.specs.Tree.{treeOf, Tree}
 use Rattle.answer_forms.specs.Answer.{accepted}
 use Rattle.answers.specs.Checks.{treeCheck}
 use Rattle.answers.specs.Members.{memberCountAnswer}
@@ -11,11 +11,20 @@ use Rattle.tree.proofs.Bounds.{sound}
 use Rattle.engine.proofs.members.count_members.Statement.{statement}
 use Rattle.engine.proofs.members.count_members.Tie as tie
 
+-- what is handed in, and the start from later places
+abbrev tree : tie.Start → Tree
+tree s = treeOf (now (s .args .parents)) (now (s .args .costs))
+
+abbrev start-told : tie.After-enum-told → tie.Start
+start-told c = c .before .before .before .before .before
+
 returns : tie.Need-returns
 unfolding memberCountAnswer
-returns c = rw (turned-away (c .before .before .before .check-tree .ensures) (c .before .enum-told2 .given .1) (c .refusal-of .ensures))
+returns c =
+    rw (turned-away (c .before .before .before .check-tree .ensures) (c .before .enum-told2 .given .1)
+    (c .refusal-of .ensures))
 
-accepted-tree : (c : tie.After-enum-told) → treeCheck (treeOf (now (c .before .before .before .before .before .args .parents)) (now (c .before .before .before .before .before .args .costs))) ≡ accepted
+accepted-tree : (c : tie.After-enum-told) → treeCheck (tree (start-told c)) ≡ accepted
 accepted-tree c = opened (c .before .before .check-tree .ensures) (c .enum-told .given .1)
 
 count-members-requires : tie.Need-count-members-requires
@@ -28,4 +37,5 @@ returns-2 c = rw (accepted-tree (c .before), c .count-members .ensures)
 pub count-members-spec : {M : Type 1} → statement M
 count-members-spec =
     tie.close
-    (tie.spec (λ c κs. search needs) (λ c. search needs) (λ c. search needs) (λ c κs. search needs) returns count-members-requires returns-2)
+    (tie.spec (λ c κs. search needs) (λ c. search needs) (λ c. search needs)
+    (λ c κs. search needs) returns count-members-requires returns-2)

@@ -23,9 +23,11 @@ returns c = let none = c .before .before .search .ensures .0 ∙ ap pos (c .if1 
 returns-2 : tie.Need-returns-2
 returns-2 c =
     let found = c .before .before .before .search .ensures in
-    let few = members-bound _ (tree-accepted _ (first-accepted _ _ (c .before .before .before .before .before .before .pre))) in
+    let few = members-bound _
+    (tree-accepted _ (first-accepted _ _ (c .before .before .before .before .before .before .pre))) in
     let counted = c .size-of .ensures ∙ ap (λ (w : List ℕ). size 1024 (bit w)) (found .1) ∙ named-size _ _ few in
-    let some : ltb 0 (c .before .before .before .search .result .amount) ≡ true = lt-ltb 0 (c .before .before .before .search .result .amount) (omega arith) in
+    let some : ltb 0 (c .before .before .before .search .result .amount)
+    ≡ true = lt-ltb 0 (c .before .before .before .search .result .amount) (omega arith) in
     (ap value (rw (found .0, some, counted)), found .1)
 
 pub search-verdict-spec : {M : Type 1} → statement M
