@@ -16,7 +16,8 @@ pub fn write_cap_sums(parents: &[u16], vertices: &[u16], caps: &[u64], out: &mut
     requires { ⌜ now vertices ≡ members (networkOf (now parents) []) ⌝ }
     requires { ⌜ Capped (length (now vertices)) (now caps) ⌝ }
     requires { ⌜ length (now out) ≡ length (now parents) ⌝ }
-    ensures { λ _. ⌜ now (out .exit) ≡ list (length (now (parents .entry))) (capSum (networkOf (now (parents .entry)) []) (now (caps .entry))) ⌝ }
+    ensures { λ _. ⌜ now (out .exit)
+        ≡ list (length (now (parents .entry))) (capSum (networkOf (now (parents .entry)) []) (now (caps .entry))) ⌝ }
 {
     write_all(out, 0);
     let mut j = 0;

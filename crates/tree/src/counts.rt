@@ -16,7 +16,8 @@ pub fn write_user_counts(parents: &[u16], vertices: &[u16], ones: &mut [u64], ou
     requires { ⌜ now vertices ≡ members (networkOf (now parents) []) ⌝ }
     requires { ⌜ length (now ones) ≡ length (now vertices) ⌝ }
     requires { ⌜ length (now out) ≡ length (now parents) ⌝ }
-    ensures { λ _. ⌜ now (out .exit) ≡ list (length (now (parents .entry))) (userCount (networkOf (now (parents .entry)) [])) ⌝ }
+    ensures { λ _. ⌜ now (out .exit)
+        ≡ list (length (now (parents .entry))) (userCount (networkOf (now (parents .entry)) [])) ⌝ }
 {
     write_all(ones, 1);
     write_cap_sums(parents, vertices, ones, out);

@@ -38,7 +38,8 @@ fn place_member(out: &mut [u16], j: usize, k: u16, has_child: bool) -> usize
     requires { ⌜ j ≤ length (now out) ⌝ }
     requires { ⌜ («has_child» ≡ false → 1 ≤ j) ⌝ }
     ensures { λ r. ⌜ r ≡ j - pick (not «has_child») 1 ⌝ }
-    ensures { λ _. ⌜ now (out .exit) ≡ cond «has_child» (now (out .entry)) (set (now (out .entry)) (j - 1) k) ⌝ }
+    ensures { λ _. ⌜ now (out .exit)
+        ≡ cond «has_child» (now (out .entry)) (set (now (out .entry)) (j - 1) k) ⌝ }
 {
     if has_child {
         return j;

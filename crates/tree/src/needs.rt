@@ -25,7 +25,8 @@ pub fn write_needs(parents: &[u16], costs: &[u32], out: &mut [u64]) -> u64
     requires { ⌜ treeCheck (treeOf (now parents) (now costs)) ≡ accepted ⌝ }
     requires { ⌜ length (now out) ≡ length (now parents) ⌝ }
     ensures { λ r. ⌜ r ≡ wholeCost (networkOf (now (parents .entry)) (now (costs .entry))) ⌝ }
-    ensures { λ _. ⌜ now (out .exit) ≡ list (length (now (parents .entry))) (need (networkOf (now (parents .entry)) (now (costs .entry)))) ⌝ }
+    ensures { λ _. ⌜ now (out .exit)
+        ≡ list (length (now (parents .entry))) (need (networkOf (now (parents .entry)) (now (costs .entry)))) ⌝ }
 {
     widen(costs, out);
     add_up(parents, out)

@@ -20,17 +20,27 @@ Inv-loop parents vertices caps out₀ j₀ out j =
 abbrev μ-loop : tie.MeasureT-loop
 μ-loop parents vertices caps out₀ j₀ out j = length vertices - j
 
+abbrev start : tie.After-write-all Inv-loop μ-loop → tie.Start Inv-loop μ-loop
+start c = c .before .before .before .before .before .before
+
+-- where the list was filled with zeros, from the loop
+abbrev filled : tie.At-loop Inv-loop μ-loop → tie.After-write-all Inv-loop μ-loop
+filled at = at .before .before .before
+
 loop-holds : tie.Need-loop-holds Inv-loop μ-loop
 loop-holds c =
-    let pre = c .before .before .before .before .before .before .before .before .pre in
-    (pre .0, pre .1 .0, placing-start _ _ (c .before .before .write-all .ensures ∙ ap (λ (m : ℕ). replicate m 0) (pre .1 .1 .1)))
+    let called = c .before .before in
+    let pre = start called .pre in
+    let zeros = called .write-all .ensures ∙ ap (λ (m : ℕ). replicate m 0) (pre .1 .1 .1) in
+    (pre .0, pre .1 .0, placing-start _ _ zeros)
 
 -- the turn's member stands at an arc
 member-here : (c : tie.In-loop Inv-loop μ-loop)
-    → In (length (now (c .before .before .before .before .before .before .before .before .before .before .args .parents)))
-    (getD (now (c .before .before .before .before .before .before .before .before .before .before .args .vertices)) (c .before .loop .j) 0)
+    → let args = start (filled (c .before)) .args in
+    In (length (now (args .parents))) (getD (now (args .vertices)) (c .before .loop .j) 0)
 member-here c =
-    member-in (networkOf (now (c .before .before .before .before .before .before .before .before .before .before .args .parents)) []) (c .before .loop .inv .1) _ (c .loop-test .taken)
+    let args = start (filled (c .before)) .args in
+    member-in (networkOf (now (args .parents)) []) (c .before .loop .inv .1) _ (c .loop-test .taken)
 
 cast-place : tie.Need-cast-place Inv-loop μ-loop
 cast-place c = omega (arith, c .shared-slice-known4 .given (c .before .before .loop .j))
@@ -46,14 +56,20 @@ slice-write-out c = omega (arith, member-here (c .before .before), c .before .be
 
 loop-again : tie.Need-loop-again Inv-loop μ-loop
 loop-again c =
-    let inv = c .before .before .before .loop .inv in
-    (inv .0, inv .1, placing-on _ _ (inv .1) _ _ (c .before .before .loop-test .taken) (omega (arith, member-here (c .before .before))) (inv .2))
+    let turn = c .before .before in
+    let inv = turn .before .loop .inv in (
+      inv .0,
+      inv .1,
+      placing-on _ _ (inv .1) _ _ (turn .loop-test .taken) (omega (arith, member-here turn)) (inv .2),
+    )
 
 add-up-requires : tie.Need-add-up-requires Inv-loop μ-loop
 add-up-requires c κs =
-    let inv = c .before .before .loop .inv in
-    let pre = c .before .before .before .before .before .before .before .before .before .before .before .pre in
-    (inv .0, (inv .2 .kept, omega (arith, placing-fits _ _ (inv .1) (omega arith) (inv .2) (inv .0 .few) (pre .1 .1 .0))))
+    let at = c .before .before in
+    let inv = at .loop .inv in
+    let pre = start (filled at) .pre in
+    let fits = placing-fits _ _ (inv .1) (omega arith) (inv .2) (inv .0 .few) (pre .1 .1 .0) in
+    (inv .0, (inv .2 .kept, omega (arith, fits)))
 
 returns : tie.Need-returns Inv-loop μ-loop
 returns c =

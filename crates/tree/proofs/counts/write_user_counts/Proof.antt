@@ -6,15 +6,23 @@ use borrow.Author.Needs.{needs}
 use Rattle.tree.proofs.counts.write_user_counts.Statement.{statement}
 use Rattle.tree.proofs.counts.write_user_counts.Tie as tie
 
+abbrev start : tie.After-write-all → tie.Start
+start c = c .before .before .before .before .before .before
+
 write-cap-sums-requires : tie.Need-write-cap-sums-requires
 write-cap-sums-requires c κs =
-    let pre = c .before .before .before .before .before .before .before .before .before .before .pre in (pre .0, (pre .1 .0, (ones-capped (c .before .before .before .before .write-all .ensures) (pre .1 .1 .0), pre .1 .1 .1)))
+    let filled = c .before .before .before .before in
+    let pre = start filled .pre in
+    (pre .0, (pre .1 .0, (ones-capped (filled .write-all .ensures) (pre .1 .1 .0), pre .1 .1 .1)))
 
 returns : tie.Need-returns
 returns c =
-    let start = c .before .before .before .before .before .before .before .before .before .before .before .before .before in
-    let are = start .pre .1 .0 in
-    c .before .before .write-cap-sums .ensures ∙ ones-count (c .before .before .before .before .before .before .before .write-all .ensures) (now (start .args .parents)) (start .pre .1 .1 .0 ∙ vertices-count (now (start .args .parents)) _ are)
+    let summed = c .before .before in
+    let filled = summed .before .before .before .before .before in
+    let parents = now (start filled .args .parents) in
+    let pre = start filled .pre in
+    summed .write-cap-sums .ensures
+    ∙ ones-count (filled .write-all .ensures) parents (pre .1 .1 .0 ∙ vertices-count parents _ (pre .1 .0))
 
 pub write-user-counts-spec : {M : Type 1} → statement M
 write-user-counts-spec =

@@ -11,32 +11,45 @@ use Rattle.tree.proofs.members.count_members.Tie as tie
 
 abbrev Inv-loop : tie.InvT-loop
 Inv-loop parents has-child₀ n₀ k₀ has-child n k =
-    Sound parents × (0 < k) × (k ≤ length parents + 1) × (n ≤ length parents + 1 - k) × Counting parents has-child n (k - 1)
+    Sound parents
+    × (0 < k)
+    × (k ≤ length parents + 1)
+    × (n ≤ length parents + 1 - k)
+    × Counting parents has-child n (k - 1)
 
 abbrev μ-loop : tie.MeasureT-loop
 μ-loop parents has-child₀ n₀ k₀ has-child n k = k
 
 loop-holds : tie.Need-loop-holds Inv-loop μ-loop
 loop-holds c =
-    (c .before .pre, omega arith, omega arith, omega arith, counting-start (c .before .args .parents .now) (omega arith))
+    let parents = c .before .args .parents .now in
+    (c .before .pre, omega arith, omega arith, omega arith, counting-start parents (omega arith))
+
+-- a turn counts at most one
+one-at-most : (c : tie.After-one-if-member Inv-loop μ-loop) → c .one-if-member .result ≤ 1
+one-at-most c =
+    let at = c .before .before .loop in
+    omega (arith, c .one-if-member .ensures, pick-le (not (getD (at .has-child) (at .k - 1) false)) 1)
 
 add-n : tie.Need-add-n Inv-loop μ-loop
-add-n c = omega (arith, c .one-if-member .ensures, pick-le (not (getD (c .before .before .loop .has-child) (c .before .before .loop .k - 1) false)) 1)
+add-n c = omega (arith, one-at-most c)
 
 cast-has-child : tie.Need-cast-has-child Inv-loop μ-loop
 cast-has-child c = omega (arith, c .shared-slice-known2 .given (c .before .before .before .loop .k - 1 - 1))
 
 array-write-has-child : tie.Need-array-write-has-child Inv-loop μ-loop
-array-write-has-child c = omega (arith, c .before .before .before .loop .inv .0 .rising (c .before .before .before .loop .k - 1 - 1))
+array-write-has-child c =
+    let at = c .before .before .before .loop in
+    omega (arith, at .inv .0 .rising (at .k - 1 - 1))
 
 loop-again : tie.Need-loop-again Inv-loop μ-loop
 loop-again c =
-    let before = c .before .before .before .loop .inv in (
-      before .0,
+    let inv = c .before .before .before .loop .inv in (
+      inv .0,
       omega arith,
       omega arith,
-      omega (arith, c .before .one-if-member .ensures, pick-le (not (getD (c .before .before .before .loop .has-child) (c .before .before .before .loop .k - 1) false)) 1),
-      counting-on _ (before .0) _ _ (omega arith) (omega arith) _ _ _ (c .before .one-if-member .ensures) (before .4),
+      omega (arith, one-at-most (c .before)),
+      counting-on _ (inv .0) _ _ (omega arith) (omega arith) _ _ _ (c .before .one-if-member .ensures) (inv .4),
     )
 
 returns : tie.Need-returns Inv-loop μ-loop

@@ -19,4 +19,6 @@ returns-2 : tie.Need-returns-2
 returns-2 c = (rw (c .if1 .left), rw (c .if1 .left))
 
 pub place-member-spec : {M : Type 1} → statement M
-place-member-spec = tie.close (tie.spec returns sub-out (λ c. search needs) slice-write-out sub-result (λ c. search needs) returns-2)
+place-member-spec =
+    tie.close
+    (tie.spec returns sub-out (λ c. search needs) slice-write-out sub-result (λ c. search needs) returns-2)

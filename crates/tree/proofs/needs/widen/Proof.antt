@@ -26,7 +26,9 @@ same-length : tie.Need-same-length Inv-loop μ-loop
 same-length c = c .before .loop .inv .kept ∙ sym (c .before .before .pre)
 
 returns : tie.Need-returns Inv-loop μ-loop
-returns c = filling-end _ _ (c .before .loop .inv) (omega arith) (c .before .before .args .costs .now) refl (λ u h. refl)
+returns c =
+    let costs = c .before .before .args .costs .now in
+    filling-end _ _ (c .before .loop .inv) (omega arith) costs refl (λ u h. refl)
 
 pub widen-spec : {M : Type 1} → statement M
 widen-spec =

@@ -19,9 +19,13 @@ module _ (ps cs : List ℕ) (ok : Accepted (treeOf ps cs)) {xs : List ℕ} (e : 
   whole-sum = rw e (ap (λ (m : ℕ). sum m (ofArc cs)) (sym (ok .same)))
 
   -- who is a member does not count
-  sums-needs : list (length ps) (sumBelow (networkOf ps []) (ofArc xs)) ≡ list (length ps) (need (networkOf ps cs))
+  sums-needs : list (length ps) (sumBelow (networkOf ps []) (ofArc xs))
+      ≡ list (length ps) (need (networkOf ps cs))
   unfolding sumBelow
   sums-needs = rw e
+
+abbrev start : tie.After-widen → tie.Start
+start c = c .before .before .before .before .before
 
 widen-requires : tie.Need-widen-requires
 widen-requires c κs =
@@ -30,18 +34,19 @@ widen-requires c κs =
 
 add-up-requires : tie.Need-add-up-requires
 add-up-requires c κs =
-    let start = c .before .before .before .before .before .before .before .before in
-    let ok = tree-accepted _ (start .pre .0) in
-    let copied = c .before .before .before .widen .ensures in
+    let widened = c .before .before .before in
+    let ok = tree-accepted _ (start widened .pre .0) in
+    let copied = widened .widen .ensures in
     (sound _ ok, (ap length copied ∙ sym (ok .same), omega (arith, whole-sum _ _ ok copied, whole-bound _ ok)))
 
 returns : tie.Need-returns
 returns c =
-    let start = c .before .before .before .before .before .before .before .before .before .before .before in
-    let ok = tree-accepted _ (start .pre .0) in
-    let copied = c .before .before .before .before .before .before .widen .ensures in
-    let summed = c .before .before .add-up .ensures in
-    (summed .0 ∙ whole-sum _ _ ok copied, summed .1 ∙ sums-needs _ _ ok copied)
+    let summed = c .before .before in
+    let widened = summed .before .before .before .before in
+    let ok = tree-accepted _ (start widened .pre .0) in
+    let copied = widened .widen .ensures in
+    let sums = summed .add-up .ensures in
+    (sums .0 ∙ whole-sum _ _ ok copied, sums .1 ∙ sums-needs _ _ ok copied)
 
 pub write-needs-spec : {M : Type 1} → statement M
 write-needs-spec = tie.close (tie.spec widen-requires add-up-requires (λ c. search needs) returns)

@@ -26,7 +26,9 @@ returns : tie.Need-returns Inv-loop μ-loop
 returns c =
     let args = c .before .before .args in
     let n = length (args .out .now) in
-    filling-end _ _ (c .before .loop .inv) (omega arith) (replicate n (args .value)) (length-replicate n (args .value)) (λ u h. getD-replicate n u (args .value) 0 h)
+    let x = args .value in
+    filling-end _ _ (c .before .loop .inv) (omega arith) (replicate n x) (length-replicate n x)
+    (λ u h. getD-replicate n u x 0 h)
 
 pub write-all-spec : {M : Type 1} → statement M
 write-all-spec =

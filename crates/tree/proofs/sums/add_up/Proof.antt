@@ -7,7 +7,8 @@ use borrow.Author.Needs.{needs}
 use Rattle.basics.specs.Sum.{sum}
 use Rattle.game.specs.Tree.{ofArc}
 use Rattle.tree.specs.Passes.{Sound}
-use Rattle.tree.proofs.SumPass.{total, Summing, summing-start, summing-at, summing-fits, summing-carry, summing-on, summing-end, summing-whole}
+use Rattle.tree.proofs.SumPass.{total, Summing, summing-start, summing-on, summing-end}
+use Rattle.tree.proofs.SumPass.{summing-at, summing-fits, summing-carry, summing-whole}
 use Rattle.tree.proofs.sums.add_up.Statement.{statement}
 use Rattle.tree.proofs.sums.add_up.Tie as tie
 
@@ -23,16 +24,27 @@ abbrev μ-loop : tie.MeasureT-loop
 μ-loop parents out₀ below₀ k₀ out below k = k
 
 loop-holds : tie.Need-loop-holds Inv-loop μ-loop
-loop-holds c = (c .pre .0, omega arith, omega arith, rw (c .pre .1 .0) at (c .pre .1 .1), summing-start _ _ (omega arith) (c .pre .1 .0))
+loop-holds c =
+    let pre = c .pre in
+    (pre .0, omega arith, omega arith, rw (pre .1 .0) at (pre .1 .1), summing-start _ _ (omega arith) (pre .1 .0))
+
+abbrev Turn : Type 0
+Turn = tie.In-loop Inv-loop μ-loop
 
 -- the sum at the turn's arc, and its parent
-sum-here : (c : tie.In-loop Inv-loop μ-loop)
-    → getD (c .before .loop .below) (c .before .loop .k - 1) 0 + getD (c .before .loop .out) (c .before .loop .k - 1 - 1) 0
-    ≡ total (now (c .before .before .args .parents)) (now (c .before .before .args .out)) (c .before .loop .k - 1)
-sum-here c = summing-at _ _ (c .before .loop .inv .0) _ _ (omega arith) (omega arith) (c .before .loop .inv .4)
+sum-here : (c : Turn)
+    → let at = c .before .loop in
+    let args = c .before .before .args in
+    getD (at .below) (at .k - 1) 0 + getD (at .out) (at .k - 1 - 1) 0
+    ≡ total (now (args .parents)) (now (args .out)) (at .k - 1)
+sum-here c =
+    let inv = c .before .loop .inv in
+    summing-at _ _ (inv .0) _ _ (omega arith) (omega arith) (inv .4)
 
-parent-here : (c : tie.In-loop Inv-loop μ-loop) → getD (now (c .before .before .args .parents)) (c .before .loop .k - 1 - 1) 0 < 1024
-parent-here c = omega (arith, c .before .loop .inv .0 .rising (c .before .loop .k - 1 - 1), c .before .loop .inv .0 .few)
+parent-here : (c : Turn) → getD (now (c .before .before .args .parents)) (c .before .loop .k - 1 - 1) 0 < 1024
+parent-here c =
+    let at = c .before .loop in
+    omega (arith, at .inv .0 .rising (at .k - 1 - 1), at .inv .0 .few)
 
 mul-total : tie.Need-mul-total Inv-loop μ-loop
 mul-total c = omega (arith, c .before .loop .inv .0 .few)
@@ -43,7 +55,8 @@ array-read-total c = omega (arith, c .before .loop .inv .0 .few)
 add-total : tie.Need-add-total Inv-loop μ-loop
 add-total c =
     let at = c .before .before .loop in
-    omega (arith, summing-fits _ _ (at .inv .0) _ (at .k - 1 - 1) (omega arith) (omega arith) (at .inv .4) _ (sum-here (c .before)))
+    let i = at .k - 1 - 1 in
+    omega (arith, summing-fits _ _ (at .inv .0) _ i (omega arith) (omega arith) (at .inv .4) _ (sum-here (c .before)))
 
 cast-p : tie.Need-cast-p Inv-loop μ-loop
 cast-p c = omega (arith, parent-here (c .before .before))
@@ -56,8 +69,10 @@ array-read-below c = omega (arith, parent-here (c .before .before))
 
 add-below : tie.Need-add-below Inv-loop μ-loop
 add-below c =
-    let at = c .before .before .before .loop in
-    omega (arith, summing-carry _ _ (at .inv .0) _ (at .k - 1 - 1) (omega arith) (omega arith) (at .inv .4) _ (sum-here (c .before .before)))
+    let turn = c .before .before in
+    let at = turn .before .loop in
+    let i = at .k - 1 - 1 in
+    omega (arith, summing-carry _ _ (at .inv .0) _ i (omega arith) (omega arith) (at .inv .4) _ (sum-here turn))
 
 mul-below-2 : tie.Need-mul-below-2 Inv-loop μ-loop
 mul-below-2 c = omega (arith, parent-here (c .before .before))
@@ -67,8 +82,14 @@ array-write-below c = omega (arith, parent-here (c .before .before))
 
 loop-again : tie.Need-loop-again Inv-loop μ-loop
 loop-again c =
-    let at = c .before .before .before .loop in
-    (at .inv .0, omega arith, omega arith, at .inv .3, summing-on _ _ (at .inv .0) _ _ (omega arith) (omega arith) (at .inv .4) _ (sum-here (c .before .before)))
+    let turn = c .before .before in
+    let inv = turn .before .loop .inv in (
+      inv .0,
+      omega arith,
+      omega arith,
+      inv .3,
+      summing-on _ _ (inv .0) _ _ (omega arith) (omega arith) (inv .4) _ (sum-here turn),
+    )
 
 array-read-result : tie.Need-array-read-result Inv-loop μ-loop
 array-read-result c = omega arith
@@ -78,10 +99,11 @@ same-length c = c .before .loop .inv .4 .kept ∙ sym (c .before .before .pre .1
 
 returns : tie.Need-returns Inv-loop μ-loop
 returns c =
-    let at = c .before .loop in
-    let xs = c .before .before .args .out .now in (
-      summing-whole _ _ (at .inv .0) (omega arith) (at .inv .4) ∙ ap (λ (m : ℕ). sum m (ofArc xs)) (sym (c .before .before .pre .1 .0)),
-      summing-end _ _ (omega arith) (at .inv .4),
+    let inv = c .before .loop .inv in
+    let start = c .before .before in
+    let xs = start .args .out .now in (
+      summing-whole _ _ (inv .0) (omega arith) (inv .4) ∙ ap (λ (m : ℕ). sum m (ofArc xs)) (sym (start .pre .1 .0)),
+      summing-end _ _ (omega arith) (inv .4),
     )
 
 pub add-up-spec : {M : Type 1} → statement M

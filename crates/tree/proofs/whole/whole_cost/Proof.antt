@@ -12,7 +12,11 @@ use Rattle.tree.proofs.whole.whole_cost.Statement.{statement}
 use Rattle.tree.proofs.whole.whole_cost.Tie as tie
 
 abbrev Inv-loop : tie.InvT-loop
-Inv-loop costs total₀ i₀ total i = (i ≤ length costs) × (length costs ≤ mostArcs) × (total ≤ i * 4294967295) × (total ≡ sum i (ofArc costs))
+Inv-loop costs total₀ i₀ total i =
+    (i ≤ length costs)
+    × (length costs ≤ mostArcs)
+    × (total ≤ i * 4294967295)
+    × (total ≡ sum i (ofArc costs))
 
 abbrev μ-loop : tie.MeasureT-loop
 μ-loop costs total₀ i₀ total i = length costs - i
@@ -28,13 +32,19 @@ add-total c = omega (arith, c .shared-slice-known .given (c .before .before .loo
 
 loop-again : tie.Need-loop-again Inv-loop μ-loop
 loop-again c =
-    let before = c .before .before .loop .inv in
-    (omega arith, before .1, omega (arith, c .shared-slice-known .given (c .before .before .loop .i)), rw (add-one (c .before .before .loop .i)) (ap (λ (x : ℕ). x + getD (now (c .before .before .before .args .costs)) (c .before .before .loop .i) 0) (before .3)))
+    let at = c .before .before .loop in
+    let costs = now (c .before .before .before .args .costs) in (
+      omega arith,
+      at .inv .1,
+      omega (arith, c .shared-slice-known .given (at .i)),
+      rw (add-one (at .i)) (ap (λ (x : ℕ). x + getD costs (at .i) 0) (at .inv .3)),
+    )
 
 returns : tie.Need-returns Inv-loop μ-loop
 returns c =
-    let end : c .before .loop .i ≡ length (now (c .before .before .args .costs)) = omega arith in
-    c .before .loop .inv .3 ∙ ap (λ (k : ℕ). sum k (ofArc (now (c .before .before .args .costs)))) end
+    let costs = now (c .before .before .args .costs) in
+    let end : c .before .loop .i ≡ length costs = omega arith in
+    c .before .loop .inv .3 ∙ ap (λ (k : ℕ). sum k (ofArc costs)) end
 
 pub whole-cost-spec : {M : Type 1} → statement M
 whole-cost-spec =
