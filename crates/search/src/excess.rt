@@ -33,7 +33,8 @@ fn share_here(has_child: bool, proposal: &[i64], j: usize) -> u64
 
 pub fn find_excesses(parents: &[u16], costs: &[u32], proposal: &[i64]) -> Excesses
     requires { ⌜ auditCheck (treeOf (now parents) (now costs)) (now proposal) ≡ accepted ⌝ }
-    ensures { λ r. ⌜ Exceeding (treeOf (now (parents .entry)) (now (costs .entry))) (now (proposal .entry)) (r .total) (r .of) (r .inner) ⌝ }
+    ensures { λ r. ⌜ Exceeding (treeOf (now (parents .entry)) (now (costs .entry))) (now (proposal .entry))
+        (r .total) (r .of) (r .inner) ⌝ }
 {
     let mut has_child = [false; MOST_ARCS + 1];
     let mut below = [0u64; MOST_ARCS + 1];

@@ -1,4 +1,5 @@
-// The group search: of all groups the one that overpays most, and of those the one with fewest members, in two passes over the tree.
+// The group search: of all groups the one that overpays most, and of those the one with fewest members, in two
+// passes over the tree.
 mod excess;
 mod mark;
 
@@ -19,8 +20,11 @@ pub struct Found {
 
 pub fn search(parents: &[u16], costs: &[u32], proposal: &[i64]) -> Found
     requires { ⌜ auditCheck (treeOf (now parents) (now costs)) (now proposal) ≡ accepted ⌝ }
-    ensures { λ r. ⌜ overpayment (networkOf (now (parents .entry)) (now (costs .entry))) (now (proposal .entry)) (isIn (named (networkOf (now (parents .entry)) (now (costs .entry))) (now (proposal .entry)))) ≡ pos (r .amount) ⌝ }
-    ensures { λ r. ⌜ r .group ≡ wordsOf (isIn (named (networkOf (now (parents .entry)) (now (costs .entry))) (now (proposal .entry)))) ⌝ }
+    ensures { λ r. ⌜ overpayment (networkOf (now (parents .entry)) (now (costs .entry))) (now (proposal .entry))
+        (isIn (named (networkOf (now (parents .entry)) (now (costs .entry))) (now (proposal .entry))))
+        ≡ pos (r .amount) ⌝ }
+    ensures { λ r. ⌜ r .group
+        ≡ wordsOf (isIn (named (networkOf (now (parents .entry)) (now (costs .entry))) (now (proposal .entry)))) ⌝ }
 {
     let found = excess::find_excesses(parents, costs, proposal);
     let of = found.of;

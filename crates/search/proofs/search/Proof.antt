@@ -7,15 +7,24 @@ use Rattle.search.proofs.NamedGroup.{found-amount, found-group}
 use Rattle.search.proofs.search.Statement.{statement}
 use Rattle.search.proofs.search.Tie as tie
 
+abbrev start : tie.After-find-excesses → tie.Start
+start c = c .before .before .before
+
+proposed : (s : tie.Start)
+    → Proposed (treeOf (now (s .args .parents)) (now (s .args .costs))) (now (s .args .proposal))
+proposed s = record { accepts = s .pre }
+
 mark-requires : tie.Need-mark-requires
 mark-requires c κs =
-    let ok : Proposed (treeOf (now (c .before .before .before .before .before .args .parents)) (now (c .before .before .before .before .before .args .costs))) (now (c .before .before .before .before .before .args .proposal)) = record { accepts = c .before .before .before .before .before .pre } in
-    (sound _ (tree-ok _ _ ok), c .before .before .find-excesses .ensures .ends)
+    let found = c .before .before in
+    (sound _ (tree-ok _ _ (proposed (start found))), found .find-excesses .ensures .ends)
 
 returns : tie.Need-returns
 returns c =
-    let ok : Proposed (treeOf (now (c .before .before .before .before .before .before .args .parents)) (now (c .before .before .before .before .before .before .args .costs))) (now (c .before .before .before .before .before .before .args .proposal)) = record { accepts = c .before .before .before .before .before .before .pre } in
-    (found-amount _ _ ok (c .before .before .before .find-excesses .ensures) (c .mark .ensures), found-group _ _ ok (c .before .before .before .find-excesses .ensures) (c .mark .ensures))
+    let found = c .before .before .before in
+    let ok = proposed (start found) in
+    let excesses = found .find-excesses .ensures in
+    (found-amount _ _ ok excesses (c .mark .ensures), found-group _ _ ok excesses (c .mark .ensures))
 
 pub search-spec : {M : Type 1} → statement M
 search-spec = tie.close (tie.spec (λ c κs. search needs) mark-requires returns)

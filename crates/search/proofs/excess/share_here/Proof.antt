@@ -12,7 +12,9 @@ shared-slice-copy-out-plus : tie.Need-shared-slice-copy-out-plus
 shared-slice-copy-out-plus c = c .before .pre (c .if1 .left)
 
 returns-2 : tie.Need-returns-2
-returns-2 c = rw (c .before .before .if1 .left) (rw (toZ-ofZ {w = w64} (record { sfits = c .before .plus-arg .given })) at (c .plus .ensures))
+returns-2 c =
+    let fits = c .before .plus-arg .given in
+    rw (c .before .before .if1 .left) (rw (toZ-ofZ {w = w64} (record { sfits = fits })) at (c .plus .ensures))
 
 pub share-here-spec : {M : Type 1} → statement M
 share-here-spec =

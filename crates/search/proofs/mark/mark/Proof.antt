@@ -25,31 +25,44 @@ cast-active-here : tie.Need-cast-active-here Inv-loop μ-loop
 cast-active-here c = omega (arith, c .shared-slice-known2 .given (c .before .before .loop .i))
 
 array-read-active-here-2 : tie.Need-array-read-active-here-2 Inv-loop μ-loop
-array-read-active-here-2 c = omega (arith, c .before .before .loop .inv .0 .rising (c .before .before .loop .i), c .before .before .loop .inv .0 .few)
+array-read-active-here-2 c =
+    let at = c .before .before .loop in
+    omega (arith, at .inv .0 .rising (at .i), at .inv .0 .few)
 
 put-requires : tie.Need-put-requires Inv-loop μ-loop
 put-requires c κs = c .before .before .before .before .before .loop .inv .4 .encoded
 
+-- the end of a turn, and the turn's start
+abbrev End : Type 0
+End = tie.After-one-if-member Inv-loop μ-loop
+
+abbrev begun : End → tie.At-loop Inv-loop μ-loop
+begun c = c .before .before .before .before .before .before .before
+
 -- the next number is at most one further
-one-at-most : (c : tie.After-one-if-member Inv-loop μ-loop) → c .one-if-member .result ≤ 1
+one-at-most : (c : End) → c .one-if-member .result ≤ 1
 one-at-most c =
-    let at = c .before .before .before .before .before .before .before in
-    omega (arith, c .one-if-member .ensures, pick-le (not (getD (at .before .before .args .t3) (at .loop .i + 1) false)) 1)
+    let at = begun c in
+    let inner = at .before .before .args .t3 in
+    omega (arith, c .one-if-member .ensures, pick-le (not (getD inner (at .loop .i + 1) false)) 1)
 
 add-j : tie.Need-add-j Inv-loop μ-loop
-add-j c = omega (arith, one-at-most c, c .before .before .before .before .before .before .before .loop .inv .0 .few)
+add-j c = omega (arith, one-at-most c, begun c .loop .inv .0 .few)
 
 loop-again : tie.Need-loop-again Inv-loop μ-loop
 loop-again c =
-    let at = c .before .before .before .before .before .before .before .loop in
-    let next = add-one (at .i) in (
+    let at = begun c .loop in
+    let next = add-one (at .i) in
+    let put = c .before .put .ensures in
+    let choice = c .before .before in (
       at .inv .0,
       at .inv .1,
       omega arith,
       omega (arith, one-at-most c),
       rw next
-          (marking-on _ _ (at .inv .0) _ (at .inv .1) (at .i) (omega arith) (at .inv .4) (rw next at (c .before .before .before .before .active-here .ensures)) (rw next at (c .before .before .chosen .ensures)) _
-          (c .before .put .ensures .0) (rw next at (c .one-if-member .ensures)) (c .before .put .ensures .1)),
+          (marking-on _ _ (at .inv .0) _ (at .inv .1) (at .i) (omega arith) (at .inv .4)
+          (rw next at (choice .before .before .active-here .ensures)) (rw next at (choice .chosen .ensures)) _
+          (put .0) (rw next at (c .one-if-member .ensures)) (put .1)),
     )
 
 returns : tie.Need-returns Inv-loop μ-loop
