@@ -27,7 +27,8 @@ fn give_out(
     requires { ⌜ length (now shares) ≡ memberCount (networkOf (now parents) []) ⌝ }
     requires { ⌜ shortArc (networkOf (now parents) (now costs)) (now caps) (length (now parents)) ≡ 0 ⌝ }
     requires { ⌜ LaidOut (networkOf (now parents) []) (now starts) (now counts) (now order) ⌝ }
-    ensures { λ _. ⌜ now (shares .exit) ≡ level (networkOf (now (parents .entry)) (now (costs .entry))) (now (caps .entry)) (ofArc (now (costs .entry))) ⌝ }
+    ensures { λ _. ⌜ now (shares .exit) ≡ level (networkOf (now (parents .entry)) (now (costs .entry)))
+        (now (caps .entry)) (ofArc (now (costs .entry))) ⌝ }
 {
     tree::write_all(shares, 0);
     let mut k = parents.len();
@@ -58,7 +59,8 @@ fn split_laid_out(
     requires { ⌜ length (now starts) ≡ length (now parents) ⌝ }
     requires { ⌜ length (now counts) ≡ length (now parents) ⌝ }
     requires { ⌜ length (now order) ≡ length (now vertices) ⌝ }
-    ensures { λ _. ⌜ now (shares .exit) ≡ level (networkOf (now (parents .entry)) (now (costs .entry))) (now (caps .entry)) (ofArc (now (costs .entry))) ⌝ }
+    ensures { λ _. ⌜ now (shares .exit) ≡ level (networkOf (now (parents .entry)) (now (costs .entry)))
+        (now (caps .entry)) (ofArc (now (costs .entry))) ⌝ }
 {
     tree::write_user_counts(parents, vertices, shares, counts);
     users::lay_out(parents, vertices, counts, starts, order);
@@ -77,7 +79,8 @@ pub fn split_arcs(
     requires { ⌜ Capped (length (now vertices)) (now caps) ⌝ }
     requires { ⌜ length (now shares) ≡ length (now vertices) ⌝ }
     requires { ⌜ shortArc (networkOf (now parents) (now costs)) (now caps) (length (now parents)) ≡ 0 ⌝ }
-    ensures { λ _. ⌜ now (shares .exit) ≡ level (networkOf (now (parents .entry)) (now (costs .entry))) (now (caps .entry)) (ofArc (now (costs .entry))) ⌝ }
+    ensures { λ _. ⌜ now (shares .exit) ≡ level (networkOf (now (parents .entry)) (now (costs .entry)))
+        (now (caps .entry)) (ofArc (now (costs .entry))) ⌝ }
 {
     let m = parents.len();
     let n = vertices.len();

@@ -34,7 +34,8 @@ fn short_at(arc: usize, need: u64, sum: u64) -> CapsFound
 // The arcs from the last down, by their needs and cap sums.
 fn first_short(needs: &[u64], sums: &[u64]) -> CapsFound
     requires { ⌜ length (now sums) ≡ length (now needs) ⌝ }
-    ensures { λ r. ⌜ ((members : ℕ) → answerOf members r ≡ shortFrom members (now (needs .entry)) (now (sums .entry)) (length (now (needs .entry)))) ⌝ }
+    ensures { λ r. ⌜ ((members : ℕ) → answerOf members r
+        ≡ shortFrom members (now (needs .entry)) (now (sums .entry)) (length (now (needs .entry)))) ⌝ }
 {
     let mut k = needs.len();
     while 0 < k {
@@ -61,7 +62,9 @@ fn compare(
     requires { ⌜ Capped (length (now vertices)) (now caps) ⌝ }
     requires { ⌜ length (now needs) ≡ length (now parents) ⌝ }
     requires { ⌜ length (now sums) ≡ length (now parents) ⌝ }
-    ensures { λ r. ⌜ answerOf (memberCount (networkOf (now (parents .entry)) (now (costs .entry)))) r ≡ splitOr9 (networkOf (now (parents .entry)) (now (costs .entry))) (now (caps .entry)) (shortArc (networkOf (now (parents .entry)) (now (costs .entry))) (now (caps .entry)) (length (now (parents .entry)))) ⌝ }
+    ensures { λ r. ⌜ (let n = networkOf (now (parents .entry)) (now (costs .entry)) in
+        answerOf (memberCount n) r
+        ≡ splitOr9 n (now (caps .entry)) (shortArc n (now (caps .entry)) (length (now (parents .entry))))) ⌝ }
 {
     tree::write_needs(parents, costs, needs);
     tree::write_cap_sums(parents, vertices, caps, sums);
@@ -73,7 +76,9 @@ pub fn find_short(parents: &[u16], costs: &[u32], vertices: &[u16], caps: &[u64]
     requires { ⌜ treeCheck (treeOf (now parents) (now costs)) ≡ accepted ⌝ }
     requires { ⌜ now vertices ≡ members (networkOf (now parents) []) ⌝ }
     requires { ⌜ Capped (length (now vertices)) (now caps) ⌝ }
-    ensures { λ r. ⌜ answerOf (memberCount (networkOf (now (parents .entry)) (now (costs .entry)))) r ≡ splitOr9 (networkOf (now (parents .entry)) (now (costs .entry))) (now (caps .entry)) (shortArc (networkOf (now (parents .entry)) (now (costs .entry))) (now (caps .entry)) (length (now (parents .entry)))) ⌝ }
+    ensures { λ r. ⌜ (let n = networkOf (now (parents .entry)) (now (costs .entry)) in
+        answerOf (memberCount n) r
+        ≡ splitOr9 n (now (caps .entry)) (shortArc n (now (caps .entry)) (length (now (parents .entry))))) ⌝ }
 {
     let m = parents.len();
     let mut needs = [0u64; MOST_ARCS];

@@ -10,33 +10,53 @@ use Rattle.game.specs.Tree.{treeOf, networkOf}
 use Rattle.answers.proofs.Accepted.{tree-accepted}
 use Rattle.users.proofs.Parts.{part-within, part-lists}
 use Rattle.fill.proofs.Arc.{lists-numbers}
-use Rattle.level.proofs.Splitting.{Ready, few, Splitting, splitting-start, splitting-room, splitting-on, splitting-end}
+use Rattle.level.proofs.Splitting.{Ready, few}
+use Rattle.level.proofs.Splitting.{Splitting, splitting-start, splitting-room, splitting-on, splitting-end}
 use borrow.Author.Needs.{needs}
 use Rattle.level.proofs.arcs.give_out.Statement.{statement}
 use Rattle.level.proofs.arcs.give_out.Tie as tie
 
 abbrev Inv-loop : tie.InvT-loop
 Inv-loop parents costs caps starts counts order shares₀ k₀ shares k =
-    Ready parents costs caps starts counts order × (k ≤ length parents) × (length shares ≡ memberCount (networkOf parents [])) × Splitting (treeOf parents costs) caps shares k
+    Ready parents costs caps starts counts order
+    × (k ≤ length parents)
+    × (length shares ≡ memberCount (networkOf parents []))
+    × Splitting (treeOf parents costs) caps shares k
 
 abbrev μ-loop : tie.MeasureT-loop
 μ-loop parents costs caps starts counts order shares₀ k₀ shares k = k
 
+abbrev start : tie.After-write-all Inv-loop μ-loop → tie.Start Inv-loop μ-loop
+start c = c .before .before .before .before .before .before .before .before .before
+
+-- where the shares were filled with zeros, from the loop
+abbrev filled : tie.At-loop Inv-loop μ-loop → tie.After-write-all Inv-loop μ-loop
+filled at = at .before .before .before
+
 loop-holds : tie.Need-loop-holds Inv-loop μ-loop
 loop-holds c =
-    let pre = c .before .before .before .before .before .before .before .before .before .before .before .pre in
+    let called = c .before .before in
+    let pre = start called .pre in
+    let zeros = called .write-all .ensures ∙ ap (λ (n : ℕ). replicate n 0) (pre .1 .1 .0) in
     let ok = tree-accepted _ (pre .0) in (
       record { accepted = ok; capped = pre .1 .0; enough = pre .1 .1 .1 .0; laid = pre .1 .1 .1 .1 },
       omega arith,
-      c .before .before .write-all .kept .0 ∙ pre .1 .1 .0,
-      splitting-start _ _ ok (pre .1 .1 .1 .0) refl (c .before .before .write-all .ensures ∙ ap (λ (n : ℕ). replicate n 0) (pre .1 .1 .0)),
+      called .write-all .kept .0 ∙ pre .1 .1 .0,
+      splitting-start _ _ ok (pre .1 .1 .1 .0) refl zeros,
     )
 
+abbrev Turn : Type 0
+Turn = tie.In-loop Inv-loop μ-loop
+
 -- an arc's part of the layout ends within it
-part-fits : (c : tie.In-loop Inv-loop μ-loop)
-    → getD (now (c .before .before .before .before .before .before .before .before .before .before .before .before .before .args .starts)) (c .before .loop .k - 1) 0 + getD (now (c .before .before .before .before .before .before .before .before .before .before .before .before .before .args .counts)) (c .before .loop .k - 1) 0 ≤ mostArcs
+part-fits : (c : Turn)
+    → let args = start (filled (c .before)) .args in
+    let place = c .before .loop .k - 1 in
+    getD (now (args .starts)) place 0 + getD (now (args .counts)) place 0 ≤ mostArcs
 part-fits c =
-    let at = c .before .loop in omega (arith, part-within (at .inv .0 .laid) (at .k) (omega arith) (at .inv .1), at .inv .0 .laid .order-sized, few (at .inv .0))
+    let at = c .before .loop in
+    let ready = at .inv .0 in
+    omega (arith, part-within (ready .laid) (at .k) (omega arith) (at .inv .1), ready .laid .order-sized, few ready)
 
 add-to : tie.Need-add-to Inv-loop μ-loop
 add-to c = omega (arith, part-fits (c .before .before))
@@ -46,32 +66,44 @@ mul-split-arc c = omega (arith, part-fits (c .before .before))
 
 part-split-arc-end : tie.Need-part-split-arc-end Inv-loop μ-loop
 part-split-arc-end c =
-    let at = c .before .before .before .loop in omega (arith, part-within (at .inv .0 .laid) (at .k) (omega arith) (at .inv .1))
+    let at = c .before .before .before .loop in
+    omega (arith, part-within (at .inv .0 .laid) (at .k) (omega arith) (at .inv .1))
+
+-- the turn, from where the arc's cost is read
+abbrev turn : tie.After-shared-slice-known9 Inv-loop μ-loop → Turn
+turn c = c .before .before .before .before .before
 
 cast-split-arc : tie.Need-cast-split-arc Inv-loop μ-loop
-cast-split-arc c = omega (arith, c .shared-slice-known9 .given (c .before .before .before .before .before .before .loop .k - 1))
+cast-split-arc c = omega (arith, c .shared-slice-known9 .given (turn c .before .loop .k - 1))
 
 split-arc-requires : tie.Need-split-arc-requires Inv-loop μ-loop
 split-arc-requires c κs =
-    let at = c .before .before .before .before .before .before .loop in
+    let at = turn c .before .loop in
     let ready = at .inv .0 in
-    lists-numbers _ (at .k) _ (part-lists (ready .laid) (at .k) (omega arith) (at .inv .1)) _ _ (ready .capped .sized) (few ready) (at .inv .2 ∙ sym (ready .capped .sized))
+    lists-numbers _ (at .k) _ (part-lists (ready .laid) (at .k) (omega arith) (at .inv .1)) _ _ (ready .capped .sized)
+    (few ready) (at .inv .2 ∙ sym (ready .capped .sized))
 
 loop-again : tie.Need-loop-again Inv-loop μ-loop
 loop-again c =
-    let at = c .before .before .before .before .before .before .before .before .before .loop in
+    let called = c .before .before in
+    let split = called .split-arc in
+    let at = turn (called .before) .before .loop in
     let ready = at .inv .0 in
     let last = at .inv .3 in (
       ready,
       omega (arith, at .inv .1),
-      c .before .before .split-arc .kept .1 .1 .0 ∙ at .inv .2,
+      split .kept .1 .1 .0 ∙ at .inv .2,
       splitting-on _ _ (ready .accepted) (ready .enough) (at .k) (at .k - 1) (at .inv .1) (omega arith) last
-          (c .before .before .split-arc .ensures .is _ (at .k) (part-lists (ready .laid) (at .k) (omega arith) (at .inv .1)) (ready .capped .sized) (few ready)
-          (splitting-room _ _ (ready .accepted) (ready .enough) (at .k) (at .k - 1) (at .inv .1) (omega arith) last (ready .capped .limited))),
+          (split .ensures .is _ (at .k) (part-lists (ready .laid) (at .k) (omega arith) (at .inv .1))
+          (ready .capped .sized) (few ready)
+          (splitting-room _ _ (ready .accepted) (ready .enough) (at .k) (at .k - 1) (at .inv .1) (omega arith) last
+          (ready .capped .limited))),
     )
 
 returns : tie.Need-returns Inv-loop μ-loop
-returns c = let at = c .before .loop in splitting-end _ _ (at .inv .0 .accepted) (at .inv .0 .enough) (omega (arith, c .loop-test .left)) (at .inv .3)
+returns c =
+    let inv = c .before .loop .inv in
+    splitting-end _ _ (inv .0 .accepted) (inv .0 .enough) (omega (arith, c .loop-test .left)) (inv .3)
 
 pub give-out-spec : {M : Type 1} → statement M
 give-out-spec =
