@@ -20,11 +20,11 @@ pub struct Found {
 
 pub fn search(parents: &[u16], costs: &[u32], proposal: &[i64]) -> Found
     requires { ⌜ auditCheck (treeOf (now parents) (now costs)) (now proposal) ≡ accepted ⌝ }
-    ensures { λ r. ⌜ overpayment (networkOf (now (parents .entry)) (now (costs .entry))) (now (proposal .entry))
-        (isIn (named (networkOf (now (parents .entry)) (now (costs .entry))) (now (proposal .entry))))
-        ≡ pos (r .amount) ⌝ }
-    ensures { λ r. ⌜ r .group
-        ≡ wordsOf (isIn (named (networkOf (now (parents .entry)) (now (costs .entry))) (now (proposal .entry)))) ⌝ }
+    ensures { λ r. ⌜ (let n = networkOf (now (parents .entry)) (now (costs .entry)) in
+        let shares = now (proposal .entry) in
+        overpayment n shares (isIn (named n shares)) ≡ pos (r .amount)) ⌝ }
+    ensures { λ r. ⌜ (let n = networkOf (now (parents .entry)) (now (costs .entry)) in
+        r .group ≡ wordsOf (isIn (named n (now (proposal .entry))))) ⌝ }
 {
     let found = excess::find_excesses(parents, costs, proposal);
     let of = found.of;

@@ -34,8 +34,8 @@ fn cost_if(used: bool, cost: u32) -> u64
 pub fn cost_of(parents: &[u16], costs: &[u32], words: [u64; 16], members: usize) -> u64
     requires { ⌜ treeCheck (treeOf (now parents) (now costs)) ≡ accepted ⌝ }
     requires { ⌜ members ≡ memberCount (networkOf (now parents) (now costs)) ⌝ }
-    ensures { λ r. ⌜ r ≡ groupCost (networkOf (now (parents .entry)) (now (costs .entry)))
-        (byNumber (networkOf (now (parents .entry)) (now (costs .entry))) (bit words)) ⌝ }
+    ensures { λ r. ⌜ (let n = networkOf (now (parents .entry)) (now (costs .entry)) in
+        r ≡ groupCost n (byNumber n (bit words))) ⌝ }
 {
     let mut has_child = [false; MOST_ARCS + 1];
     let mut used = [false; MOST_ARCS + 1];
