@@ -11,7 +11,8 @@ ghost use Rattle.game.specs.ByArc.{byArc};
 ghost use Rattle.answer_forms.specs.Answer.{accepted};
 ghost use Rattle.answers.specs.Checks.{treeCheck};
 
-// The last three lists are room for the numbers of users, their parts and the units left over; the shares serve first as room for the counts.
+// The last three lists are room for the numbers of users, their parts and the units left over; the shares serve first
+// as room for the counts.
 fn split_in(
     parents: &[u16],
     costs: &[u32],

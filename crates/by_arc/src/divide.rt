@@ -11,8 +11,10 @@ pub fn divide(costs: &[u32], counts: &[u64], each: &mut [u64], more: &mut [u64])
     requires { ⌜ length (now each) ≡ length (now costs) ⌝ }
     requires { ⌜ length (now more) ≡ length (now costs) ⌝ }
     requires { ⌜ ((i : ℕ) → i < length (now counts) → 0 < getD (now counts) i 0) ⌝ }
-    ensures { λ _. ⌜ now (each .exit) ≡ list (length (now (costs .entry))) (λ k. ofArc (now (costs .entry)) k / ofArc (now (counts .entry)) k) ⌝ }
-    ensures { λ _. ⌜ now (more .exit) ≡ list (length (now (costs .entry))) (λ k. ofArc (now (costs .entry)) k % ofArc (now (counts .entry)) k) ⌝ }
+    ensures { λ _. ⌜ now (each .exit) ≡ list (length (now (costs .entry)))
+        (λ k. ofArc (now (costs .entry)) k / ofArc (now (counts .entry)) k) ⌝ }
+    ensures { λ _. ⌜ now (more .exit) ≡ list (length (now (costs .entry)))
+        (λ k. ofArc (now (costs .entry)) k % ofArc (now (counts .entry)) k) ⌝ }
 {
     let mut i = 0;
     while i < costs.len() {

@@ -14,7 +14,8 @@ fn share_of(parents: &[u16], each: &[u64], more: &mut [u64], vertex: usize) -> u
     requires { ⌜ Sound (now parents) ⌝ }
     requires { ⌜ Parts (length (now parents)) (now each) (now more) ⌝ }
     requires { ⌜ vertex ≤ length (now parents) ⌝ }
-    ensures { λ r. ⌜ r ≡ sumAbove (networkOf (now (parents .entry)) []) (given (ofArc (now (each .entry))) (ofArc (now (more .entry)))) vertex ⌝ }
+    ensures { λ r. ⌜ r ≡ sumAbove (networkOf (now (parents .entry)) [])
+        (given (ofArc (now (each .entry))) (ofArc (now (more .entry)))) vertex ⌝ }
     ensures { λ _. ⌜ now (more .exit) ≡ oneLess (networkOf (now (parents .entry)) []) (now (more .entry)) vertex ⌝ }
 {
     let mut share: u64 = 0;
@@ -42,7 +43,8 @@ pub fn write_shares(
     requires { ⌜ now vertices ≡ members (networkOf (now parents) []) ⌝ }
     requires { ⌜ Parts (length (now parents)) (now each) (now more) ⌝ }
     requires { ⌜ length (now shares) ≡ length (now vertices) ⌝ }
-    ensures { λ _. ⌜ now (shares .exit) ≡ list (length (now (shares .entry))) (λ i. dealt (networkOf (now (parents .entry)) []) (now (each .entry)) (now (more .entry)) (pred i)) ⌝ }
+    ensures { λ _. ⌜ now (shares .exit) ≡ list (length (now (shares .entry)))
+        (λ i. dealt (networkOf (now (parents .entry)) []) (now (each .entry)) (now (more .entry)) (pred i)) ⌝ }
 {
     let mut j = 0;
     while j < vertices.len() {

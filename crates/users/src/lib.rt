@@ -45,7 +45,8 @@ fn write_order(vertices: &[u16], starts: &[u64], order: &mut [u16])
     }
 }
 
-// Writes the members in depth-first order and, for each arc, where its users begin in that list; `counts` holds how many they are.
+// Writes the members in depth-first order and, for each arc, where its users begin in that list; `counts` holds
+// how many they are.
 pub fn lay_out(
     parents: &[u16],
     vertices: &[u16],
@@ -58,7 +59,8 @@ pub fn lay_out(
     requires { ⌜ now counts ≡ list (length (now parents)) (userCount (networkOf (now parents) [])) ⌝ }
     requires { ⌜ length (now starts) ≡ length (now parents) ⌝ }
     requires { ⌜ length (now order) ≡ length (now vertices) ⌝ }
-    ensures { λ _. ⌜ LaidOut (networkOf (now (parents .entry)) []) (now (starts .exit)) (now (counts .entry)) (now (order .exit)) ⌝ }
+    ensures { λ _. ⌜ LaidOut (networkOf (now (parents .entry)) [])
+        (now (starts .exit)) (now (counts .entry)) (now (order .exit)) ⌝ }
 {
     write_starts(parents, counts, starts);
     write_order(vertices, starts, order);

@@ -1,4 +1,4 @@
-use Prim.Native.Nat.{_-_, _<_}
+use Prim.Native.Nat.{ℕ, _-_, _<_}
 use lib.ListN.{length, getD}
 use denote.Ref.{now}
 use native.Mathlib.Numerals.{add-one}
@@ -21,19 +21,25 @@ abbrev μ-loop : tie.MeasureT-loop
 loop-holds : tie.Need-loop-holds Inv-loop μ-loop
 loop-holds c = (c .pre .0, ordering-start _ _ (c .pre .1))
 
+abbrev Turn : Type 0
+Turn = tie.In-loop Inv-loop μ-loop
+
 -- the turn's member stands at an arc
-arc-here : (c : tie.In-loop Inv-loop μ-loop)
-    → In (length (now (c .before .before .args .starts))) (getD (now (c .before .before .args .vertices)) (c .before .loop .j) 0)
+abbrev arc : Turn → ℕ
+arc c = getD (now (c .before .before .args .vertices)) (c .before .loop .j) 0
+
+arc-here : (c : Turn) → In (length (now (c .before .before .args .starts))) (arc c)
 arc-here c =
     let at = c .before .loop in
     record { low = at .inv .0 .first (at .j) (omega arith); high = at .inv .0 .last (at .j) (omega arith) }
 
-place-here : (c : tie.In-loop Inv-loop μ-loop)
-    → getD (now (c .before .before .args .starts)) (getD (now (c .before .before .args .vertices)) (c .before .loop .j) 0 - 1) 0
-    < length (now (c .before .before .args .vertices))
+place-here : (c : Turn)
+    → let args = c .before .before .args in
+    getD (now (args .starts)) (arc c - 1) 0 < length (now (args .vertices))
 place-here c =
-    let v = getD (now (c .before .before .args .vertices)) (c .before .loop .j) 0 in
-    omega (arith, entry (now (c .before .before .args .starts)) v (arc-here c .low), c .before .loop .inv .0 .within (c .before .loop .j) (omega arith))
+    let starts = now (c .before .before .args .starts) in
+    let at = c .before .loop in
+    omega (arith, entry starts (arc c) (arc-here c .low), at .inv .0 .within (at .j) (omega arith))
 
 cast-arc : tie.Need-cast-arc Inv-loop μ-loop
 cast-arc c = omega (arith, c .shared-slice-known .given (c .before .before .loop .j))
@@ -55,8 +61,10 @@ slice-write-order c = omega (arith, place-here (c .before .before), c .before .b
 
 loop-again : tie.Need-loop-again Inv-loop μ-loop
 loop-again c =
-    let at = c .before .before .before .loop in
-    (at .inv .0, rw (add-one (at .j)) (ordering-on _ _ (at .inv .0) (omega arith) (at .inv .1) _ (entry _ _ (arc-here (c .before .before) .low))))
+    let turn = c .before .before in
+    let at = turn .before .loop in
+    let place = entry _ _ (arc-here turn .low) in
+    (at .inv .0, rw (add-one (at .j)) (ordering-on _ _ (at .inv .0) (omega arith) (at .inv .1) _ place))
 
 returns : tie.Need-returns Inv-loop μ-loop
 returns c = ordering-end _ _ (omega arith) (c .before .loop .inv .1)

@@ -20,8 +20,11 @@ abbrev μ-loop : tie.MeasureT-loop
 loop-holds : tie.Need-loop-holds Inv-loop μ-loop
 loop-holds c = (c .pre .0, c .pre .1 .0, beginning-start _ _ (c .pre .1 .1))
 
-parent-here : (c : tie.In-loop Inv-loop μ-loop) → getD (now (c .before .before .args .parents)) (c .before .loop .i) 0 < 1024
-parent-here c = omega (arith, c .before .loop .inv .0 .rising (c .before .loop .i), c .before .loop .inv .0 .few)
+parent-here : (c : tie.In-loop Inv-loop μ-loop)
+    → getD (now (c .before .before .args .parents)) (c .before .loop .i) 0 < 1024
+parent-here c =
+    let at = c .before .loop in
+    omega (arith, at .inv .0 .rising (at .i), at .inv .0 .few)
 
 cast-p : tie.Need-cast-p Inv-loop μ-loop
 cast-p c = omega (arith, parent-here (c .before))
@@ -46,7 +49,8 @@ array-write-next c = omega (arith, parent-here (c .before .before))
 loop-again : tie.Need-loop-again Inv-loop μ-loop
 loop-again c =
     let at = c .before .before .before .loop in
-    (at .inv .0, at .inv .1, rw (add-one (at .i)) (beginning-on _ _ (at .inv .0) (at .inv .1) (omega arith) (at .inv .2)))
+    let inv = at .inv in
+    (inv .0, inv .1, rw (add-one (at .i)) (beginning-on _ _ (inv .0) (inv .1) (omega arith) (inv .2)))
 
 returns : tie.Need-returns Inv-loop μ-loop
 returns c = beginning-end _ _ (omega arith) (c .before .loop .inv .2)

@@ -10,23 +10,27 @@ use borrow.Author.Needs.{needs}
 use Rattle.by_arc.proofs.arcs.split_arcs.Statement.{statement}
 use Rattle.by_arc.proofs.arcs.split_arcs.Tie as tie
 
-few : (c : tie.Start) → length (now (c .args .parents)) ≤ mostArcs
-few c = tree-accepted (treeOf (now (c .args .parents)) (now (c .args .costs))) (c .pre .0) .few
+abbrev start : tie.After-split-in-arg → tie.Start
+start c = c .before .before .before .before .before
+
+few : (s : tie.Start) → length (now (s .args .parents)) ≤ mostArcs
+few s = tree-accepted (treeOf (now (s .args .parents)) (now (s .args .costs))) (s .pre .0) .few
 
 part-counts-end : tie.Need-part-counts-end
-part-counts-end c = omega (arith, few (c .before .before .before .before .before))
+part-counts-end c = omega (arith, few (start c))
 
 part-each-end : tie.Need-part-each-end
-part-each-end c = omega (arith, few (c .before .before .before .before .before .before))
+part-each-end c = omega (arith, few (start (c .before)))
 
 part-more-end : tie.Need-part-more-end
-part-more-end c = omega (arith, few (c .before .before .before .before .before .before .before))
+part-more-end c = omega (arith, few (start (c .before .before)))
 
 split-in-requires : tie.Need-split-in-requires
 split-in-requires c κs =
-    let pre = c .before .before .before .before .before .before .before .before .pre in
-    let few = tree-accepted _ (pre .0) .few in
-    (pre .0, (pre .1 .0, (pre .1 .1, (zeros-length mostArcs _ few, (zeros-length mostArcs _ few, zeros-length mostArcs _ few)))))
+    let s = start (c .before .before .before) in
+    let pre = s .pre in
+    let zeros = zeros-length mostArcs _ (few s) in
+    (pre .0, (pre .1 .0, (pre .1 .1, (zeros, (zeros, zeros)))))
 
 pub split-arcs-spec : {M : Type 1} → statement M
 split-arcs-spec =

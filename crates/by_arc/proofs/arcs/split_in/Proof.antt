@@ -7,37 +7,47 @@ use borrow.Author.Needs.{needs}
 use Rattle.by_arc.proofs.arcs.split_in.Statement.{statement}
 use Rattle.by_arc.proofs.arcs.split_in.Tie as tie
 
+-- the start, from where the numbers of users are written, and that place, from where the costs are divided
+abbrev start : tie.After-write-user-counts-arg2 → tie.Start
+start c = c .before .before .before .before .before .before .before .before .before
+
+abbrev counting : tie.After-divide → tie.After-write-user-counts
+counting c = c .before .before .before .before .before .before .before .before
+
 write-user-counts-requires : tie.Need-write-user-counts-requires
 write-user-counts-requires c κs =
-    let pre = c .before .before .before .before .before .before .before .before .before .pre in (sound _ (tree-accepted _ (pre .0)), (pre .1 .0, (pre .1 .1 .0, pre .1 .1 .1 .0)))
+    let pre = start c .pre in
+    (sound _ (tree-accepted _ (pre .0)), (pre .1 .0, (pre .1 .1 .0, pre .1 .1 .1 .0)))
 
 divide-requires : tie.Need-divide-requires
 divide-requires c κs =
     let counted = c .before .before .before .before .before .before .before in
-    let pre = counted .before .before .before .before .before .before .before .before .before .before .pre in
+    let pre = start (counted .before) .pre in
+    let parts = pre .1 .1 .1 .1 in
     let ok = tree-accepted _ (pre .0) in (
       counted .write-user-counts .kept .1 .1 .1 .0 ∙ pre .1 .1 .1 .0 ∙ ok .same,
-      (pre .1 .1 .1 .1 .0 ∙ ok .same, (pre .1 .1 .1 .1 .1 ∙ ok .same, counts-some _ ok (counted .write-user-counts .ensures))),
+      (parts .0 ∙ ok .same, (parts .1 ∙ ok .same, counts-some _ ok (counted .write-user-counts .ensures))),
     )
 
 write-shares-requires : tie.Need-write-shares-requires
 write-shares-requires c κs =
     let divided = c .before .before .before .before .before .before .before in
-    let counted = divided .before .before .before .before .before .before .before .before in
-    let pre = counted .before .before .before .before .before .before .before .before .before .before .pre in
+    let counted = counting divided .write-user-counts in
+    let pre = start (counting divided .before) .pre in
     let ok = tree-accepted _ (pre .0) in
-    let parts = split-parts _ ok (counted .write-user-counts .ensures) (divided .divide .ensures .0) (divided .divide .ensures .1) in
-    (sound _ ok, (pre .1 .0, (parts, counted .write-user-counts .kept .1 .1 .0 ∙ pre .1 .1 .0)))
+    let parts = split-parts _ ok (counted .ensures) (divided .divide .ensures .0) (divided .divide .ensures .1) in
+    (sound _ ok, (pre .1 .0, (parts, counted .kept .1 .1 .0 ∙ pre .1 .1 .0)))
 
 returns : tie.Need-returns
 returns c =
     let shared = c .before .before .before .before in
     let divided = shared .before .before .before .before .before .before .before .before in
-    let counted = divided .before .before .before .before .before .before .before .before in
-    let pre = counted .before .before .before .before .before .before .before .before .before .before .pre in
-    let one-a-member = counted .write-user-counts .kept .1 .1 .0 ∙ pre .1 .1 .0 ∙ vertices-count _ _ (pre .1 .0) in
+    let counted = counting divided .write-user-counts in
+    let pre = start (counting divided .before) .pre in
+    let ok = tree-accepted _ (pre .0) in
+    let one-a-member = counted .kept .1 .1 .0 ∙ pre .1 .1 .0 ∙ vertices-count _ _ (pre .1 .0) in
     shared .write-shares .ensures
-    ∙ split-is _ (tree-accepted _ (pre .0)) (counted .write-user-counts .ensures) (divided .divide .ensures .0) (divided .divide .ensures .1) one-a-member
+    ∙ split-is _ ok (counted .ensures) (divided .divide .ensures .0) (divided .divide .ensures .1) one-a-member
 
 pub split-in-spec : {M : Type 1} → statement M
 split-in-spec =

@@ -5,7 +5,8 @@ use lib.ListN.{length, getD}
 use denote.Ref.{now}
 use Rattle.tree.specs.Passes.{Sound}
 use Rattle.by_arc.specs.Parts.{Parts}
-use Rattle.by_arc.proofs.Climbing.{unit-left, Climbing, climbing-start, climbing-small, climbing-on, climbing-share, climbing-rest}
+use Rattle.by_arc.proofs.Climbing.{unit-left, Climbing, climbing-start, climbing-on}
+use Rattle.by_arc.proofs.Climbing.{climbing-small, climbing-share, climbing-rest}
 use borrow.Author.Needs.{needs}
 use Rattle.by_arc.proofs.shares.share_of.Statement.{statement}
 use Rattle.by_arc.proofs.shares.share_of.Tie as tie
@@ -23,14 +24,18 @@ loop-holds c =
     (pre .0, pre .1 .0, climbing-start _ _ _ _ (pre .0) (pre .1 .0) (pre .1 .1))
 
 -- the unit that the turn's arc gives
-unit : (c : tie.After-one-if-below Inv-loop μ-loop) → c .one-if-below .result ≡ min (getD (c .before .before .before .loop .more) (c .before .before .before .loop .k - 1) 0) 1
+unit : (c : tie.After-one-if-below Inv-loop μ-loop)
+    → let at = c .before .before .before .loop in
+    c .one-if-below .result ≡ min (getD (at .more) (at .k - 1) 0) 1
 unit c =
     let at = c .before .before .before .loop in
     omega (arith, c .one-if-below .ensures .0, unit-left 0 (getD (at .more) (at .k - 1) 0))
 
 -- there is room for the turn's part
 room : (c : tie.After-one-if-below Inv-loop μ-loop)
-    → c .before .before .before .loop .share + getD (now (c .before .before .before .before .before .before .before .args .each)) (c .before .before .before .loop .k - 1) 0 ≤ 1024000000000
+    → let at = c .before .before .before in
+    let start = at .before .before .before .before in
+    at .loop .share + getD (now (start .args .each)) (at .loop .k - 1) 0 ≤ 1024000000000
 room c =
     let at = c .before .before .before .loop in
     climbing-small _ _ _ _ (at .inv .0) (at .inv .1) (at .inv .2) (at .k - 1) (omega arith)
@@ -45,21 +50,32 @@ sub-more : tie.Need-sub-more Inv-loop μ-loop
 sub-more c = omega (arith, unit (c .before))
 
 cast-k : tie.Need-cast-k Inv-loop μ-loop
-cast-k c = let at = c .before .before .before .before .before .loop in omega (arith, c .shared-slice-known4 .given (at .k - 1))
+cast-k c =
+    let at = c .before .before .before .before .before .loop in
+    omega (arith, c .shared-slice-known4 .given (at .k - 1))
 
 loop-less : tie.Need-loop-less Inv-loop μ-loop
-loop-less c = let at = c .before .before .before .before .before .loop in omega (arith, at .inv .0 .rising (at .k - 1))
+loop-less c =
+    let at = c .before .before .before .before .before .loop in
+    omega (arith, at .inv .0 .rising (at .k - 1))
 
 loop-again : tie.Need-loop-again Inv-loop μ-loop
 loop-again c =
     let at = c .before .before .before .before .before .loop in
-    let one = unit (c .before .before) in
-    (at .inv .0, at .inv .1, climbing-on _ _ _ _ (at .inv .0) (at .inv .1) (at .inv .2) (at .k - 1) (omega arith) _ _ (omega (arith, one)) (omega (arith, one)))
+    let inv = at .inv in
+    let one = unit (c .before .before) in (
+      inv .0,
+      inv .1,
+      climbing-on _ _ _ _ (inv .0) (inv .1) (inv .2) (at .k - 1) (omega arith) _ _ (omega (arith, one))
+          (omega (arith, one)),
+    )
 
 returns : tie.Need-returns Inv-loop μ-loop
 returns c =
-    let inv = c .before .loop .inv in
-    (climbing-share _ _ _ _ (inv .0) (inv .1) (omega arith) (inv .2), climbing-rest _ _ _ _ (inv .0) (inv .1) (omega arith) (inv .2))
+    let inv = c .before .loop .inv in (
+      climbing-share _ _ _ _ (inv .0) (inv .1) (omega arith) (inv .2),
+      climbing-rest _ _ _ _ (inv .0) (inv .1) (omega arith) (inv .2),
+    )
 
 pub share-of-spec : {M : Type 1} → statement M
 share-of-spec =

@@ -35,17 +35,21 @@ cast-share-of c = omega (arith, c .shared-slice-known4 .given (c .before .before
 share-of-requires : tie.Need-share-of-requires Inv-loop μ-loop
 share-of-requires c κs =
     let at = c .before .before .before .loop in
-    (at .inv .0, (serving-parts _ _ _ _ (at .inv .2) (at .inv .4), member-in (networkOf _ []) (at .inv .1) (at .j) (omega arith) .high))
+    let inv = at .inv in
+    let vertex = member-in (networkOf _ []) (inv .1) (at .j) (omega arith) in
+    (inv .0, (serving-parts _ _ _ _ (inv .2) (inv .4), vertex .high))
 
 loop-again : tie.Need-loop-again Inv-loop μ-loop
 loop-again c =
     let at = c .before .before .before .before .before .before .loop in
-    let got = c .before .before .share-of .ensures in (
-      at .inv .0,
-      at .inv .1,
-      at .inv .2,
-      at .inv .3,
-      serving-on _ _ _ _ (at .inv .2) (at .inv .4) (omega arith) _ (ap (λ (l : List ℕ). getD l (at .j) 0) (at .inv .1)) _ (got .0) (got .1),
+    let inv = at .inv in
+    let got = c .before .before .share-of .ensures in
+    let vertex = ap (λ (l : List ℕ). getD l (at .j) 0) (inv .1) in (
+      inv .0,
+      inv .1,
+      inv .2,
+      inv .3,
+      serving-on _ _ _ _ (inv .2) (inv .4) (omega arith) _ vertex _ (got .0) (got .1),
     )
 
 returns : tie.Need-returns Inv-loop μ-loop
