@@ -9,7 +9,8 @@ use Rattle.fill.proofs.key.find_key.Statement.{statement}
 use Rattle.fill.proofs.key.find_key.Tie as tie
 
 abbrev Inv-loop : tie.InvT-loop
-Inv-loop users caps shares amount low₀ high₀ low high = Numbers users caps shares × Between users caps shares amount low high
+Inv-loop users caps shares amount low₀ high₀ low high =
+    Numbers users caps shares × Between users caps shares amount low high
 
 abbrev μ-loop : tie.MeasureT-loop
 μ-loop users caps shares amount low₀ high₀ low high = high - low
@@ -19,16 +20,23 @@ loop-holds c = (c .before .before .before .pre, between-start _ _ _ _)
 
 -- the ends after a turn
 nearer : (c : tie.After-by-fill2 Inv-loop μ-loop)
-    → let at = c .before .before .before .before .loop in
-    let given = c .before .before .before .before .before .before .before .before .args in
-    Between (now (given .users)) (now (given .caps)) (now (given .shares)) (given .amount) (c .before .by-fill .result) (c .by-fill2 .result)
-    × (c .by-fill2 .result - c .before .by-fill .result < at .high - at .low)
+    → let at = c .before .before .before .before in
+    let given = at .before .before .before .before .args in
+    let low = c .before .by-fill .result in
+    let high = c .by-fill2 .result in
+    Between (now (given .users)) (now (given .caps)) (now (given .shares)) (given .amount) low high
+    × (high - low < at .loop .high - at .loop .low)
 nearer c =
-    let at = c .before .before .before .before .loop in
-    between-on _ _ _ _ (at .low) (at .high) _ _ (at .inv .1) (omega (arith, c .before .before .before .loop-test .taken)) refl (c .before .before .fill-to .ensures) _ _ (c .before .by-fill .ensures) (c .by-fill2 .ensures)
+    let filled = c .before .before in
+    let turn = filled .before in
+    let at = turn .before .loop in
+    between-on _ _ _ _ (at .low) (at .high) _ _ (at .inv .1) (omega (arith, turn .loop-test .taken)) refl
+    (filled .fill-to .ensures) _ _ (c .before .by-fill .ensures) (c .by-fill2 .ensures)
 
 returns : tie.Need-returns Inv-loop μ-loop
-returns c = between-end _ _ _ _ _ (c .before .loop .high) (c .before .loop .inv .1) (omega (arith, c .loop-test .left))
+returns c =
+    let at = c .before .loop in
+    between-end _ _ _ _ _ (at .high) (at .inv .1) (omega (arith, c .loop-test .left))
 
 pub find-key-spec : {M : Type 1} → statement M
 find-key-spec =

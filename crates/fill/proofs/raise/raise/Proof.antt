@@ -19,9 +19,12 @@ Inv-loop users caps shares₀ key i₀ shares i =
 abbrev μ-loop : tie.MeasureT-loop
 μ-loop users caps shares₀ key i₀ shares i = length users - i
 
+abbrev start : tie.At-loop Inv-loop μ-loop → tie.Start Inv-loop μ-loop
+start at = at .before .before .before .before
+
 -- the turn's user is a member's number
 user-here : (c : tie.In-loop Inv-loop μ-loop)
-    → let given = c .before .before .before .before .before .args in
+    → let given = start (c .before) .args in
     getD (now (given .users)) (c .before .loop .i) 0 < length (now (given .caps))
 user-here c = c .before .loop .inv .0 .numbered (c .before .loop .i) (c .loop-test .taken)
 
@@ -40,36 +43,45 @@ mul-part-of c = omega (arith, c .before .shared-slice-known3 .given (c .before .
 shared-slice-read-part-of : tie.Need-shared-slice-read-part-of Inv-loop μ-loop
 shared-slice-read-part-of c = user-here (c .before .before .before)
 
+-- the turn, from its end
+abbrev turn : tie.After-part-of Inv-loop μ-loop → tie.In-loop Inv-loop μ-loop
+turn c = c .before .before .before .before
+
 -- the user's share and cap fit, so the share raised fits
 add-shares : tie.Need-add-shares Inv-loop μ-loop
 add-shares c =
-    let at = c .before .before .before .before .before .loop in
-    let given = c .before .before .before .before .before .before .before .before .before .args in
-    let u = getD (now (given .users)) (at .i) 0 in
+    let at = turn c .before in
+    let given = start at .args in
+    let u = getD (now (given .users)) (at .loop .i) 0 in
     omega (
       arith,
       c .part-of .ensures,
-      raised-most 18446744073709551615 (getD (now (given .caps)) u 0) (getD (at .shares) u 0) (aim (given .key) u) (omega (arith, c .before .before .slice-known2 .given u))
+      raised-most 18446744073709551615 (getD (now (given .caps)) u 0) (getD (at .loop .shares) u 0) (aim (given .key) u)
+          (omega (arith, c .before .before .slice-known2 .given u))
           (omega (arith, c .before .shared-slice-known4 .given u)),
     )
 
 mul-shares : tie.Need-mul-shares Inv-loop μ-loop
-mul-shares c = omega (arith, c .before .before .before .shared-slice-known3 .given (c .before .before .before .before .before .loop .i))
+mul-shares c = omega (arith, c .before .before .before .shared-slice-known3 .given (turn c .before .loop .i))
 
 slice-write-shares : tie.Need-slice-write-shares Inv-loop μ-loop
-slice-write-shares c = omega (arith, user-here (c .before .before .before .before), c .before .before .before .before .before .loop .inv .0 .same)
+slice-write-shares c = omega (arith, user-here (turn c), turn c .before .loop .inv .0 .same)
 
 loop-again : tie.Need-loop-again Inv-loop μ-loop
 loop-again c =
-    let at = c .before .before .before .before .before .loop in
-    let given = c .before .before .before .before .before .before .before .before .before .args in
-    let u = getD (now (given .users)) (at .i) 0 in
-    let sized = length-set (at .shares) u (getD (at .shares) u 0 + c .part-of .result) in (
+    let at = turn c .before .loop in
+    let given = start (turn c .before) .args in
+    let users = now (given .users) in
+    let caps = now (given .caps) in
+    let u = getD users (at .i) 0 in
+    let share = getD (at .shares) u 0 in
+    let sized = length-set (at .shares) u (share + c .part-of .result) in (
       record { few = at .inv .0 .few; numbered = at .inv .0 .numbered; same = sized ∙ at .inv .0 .same },
       omega arith,
       sized ∙ at .inv .2,
-      ap (λ (more : ℕ). raised (now (given .caps)) (given .key) (drop (at .i + 1) (now (given .users))) (set (at .shares) u (getD (at .shares) u 0 + more))) (c .part-of .ensures)
-          ∙ sym (raised-turn (now (given .users)) (at .i) (omega arith) (now (given .caps)) (given .key) (at .shares)) ∙ at .inv .3,
+      ap (λ (more : ℕ). raised caps (given .key) (drop (at .i + 1) users) (set (at .shares) u (share + more)))
+          (c .part-of .ensures)
+          ∙ sym (raised-turn users (at .i) (omega arith) caps (given .key) (at .shares)) ∙ at .inv .3,
     )
 
 returns : tie.Need-returns Inv-loop μ-loop
