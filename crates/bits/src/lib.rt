@@ -25,7 +25,8 @@ fn set_in_word(word: u64, i: usize) -> u64
 // Puts member j into the group where `on`; no group has a member beyond its bits.
 pub fn put(words: &mut [u64; 16], j: usize, on: bool)
     requires { ⌜ now words ≡ wordsOf (bit (now words)) ⌝ }
-    ensures { λ _. ⌜ ((i : ℕ) → bit (now (words .exit)) i ≡ (bit (now (words .entry)) i || (on && (eqb i j && ltb j groupBits)))) ⌝ }
+    ensures { λ _. ⌜ ((i : ℕ) → bit (now (words .exit)) i
+        ≡ (bit (now (words .entry)) i || (on && (eqb i j && ltb j groupBits)))) ⌝ }
     ensures { λ _. ⌜ now (words .exit) ≡ wordsOf (bit (now (words .exit))) ⌝ }
 {
     if on && j < GROUP_BITS {

@@ -17,22 +17,26 @@ abbrev μ-loop : tie.MeasureT-loop
 
 returns : tie.Need-returns Inv-loop μ-loop
 returns c =
-    let turn = c .before .before in
-    let at-loop = turn .before .before in
-    c .refuse .ensures ∙ sym (at-loop .loop .inv ∙ bits-found _ (1024 - at-loop .loop .j) (at-loop .loop .j) (omega arith) (turn .clear-run .ensures .none (c .before .if1 .taken)))
+    let run = c .before .before in
+    let at = run .before .before .loop in
+    let set = run .clear-run .ensures .none (c .before .if1 .taken) in
+    c .refuse .ensures ∙ sym (at .inv ∙ bits-found _ (1024 - at .j) (at .j) (omega arith) set)
 
 loop-less : tie.Need-loop-less Inv-loop μ-loop
 loop-less c = omega arith
 
 loop-again : tie.Need-loop-again Inv-loop μ-loop
 loop-again c =
-    let turn = c .before in
-    let at-loop = turn .before .before in
-    rw sub-add-eq (at-loop .loop .inv ∙ bits-skip _ (turn .clear-run .result) (1024 - at-loop .loop .j) (at-loop .loop .j) (turn .clear-run .ensures .clear))
+    let run = c .before in
+    let at = run .before .before .loop in
+    let clear = run .clear-run .ensures .clear in
+    rw sub-add-eq (at .inv ∙ bits-skip _ (run .clear-run .result) (1024 - at .j) (at .j) clear)
 
 returns-2 : tie.Need-returns-2 Inv-loop μ-loop
 unfolding bitsCheck
-returns-2 c = let end : 1024 - c .before .loop .j ≡ 0 = omega arith in sym (rw end at (c .before .loop .inv))
+returns-2 c =
+    let end : 1024 - c .before .loop .j ≡ 0 = omega arith in
+    sym (rw end at (c .before .loop .inv))
 
 pub check-group-spec : {M : Type 1} → statement M
 check-group-spec =

@@ -14,18 +14,25 @@ returns c =
       small = omega arith;
     }
 
-first-bit : (c : tie.After-bit-of) → c .bit-of .result ≡ bit (c .before .before .args .t1) (c .before .before .args .j)
+first-bit : (c : tie.After-bit-of)
+    → let args = c .before .before .args in
+    c .bit-of .result ≡ bit (args .t1) (args .j)
 unfolding bit
 first-bit c = c .bit-of .ensures
 
 returns-2 : tie.Need-returns-2
 returns-2 c =
-    record { clear = λ k l h. absurd (omega arith); none = λ e. sym (first-bit (c .before)) ∙ c .if2 .taken; small = omega arith }
+    record {
+      clear = λ k l h. absurd (omega arith);
+      none = λ e. sym (first-bit (c .before)) ∙ c .if2 .taken;
+      small = omega arith;
+    }
 
 returns-3 : tie.Need-returns-3
 returns-3 c =
+    let j = c .before .before .before .args .j in
     record {
-      clear = λ k l h. let e : k ≡ c .before .before .before .args .j = omega arith in rw e (sym (first-bit (c .before)) ∙ c .if2 .left);
+      clear = λ k l h. let e : k ≡ j = omega arith in rw e (sym (first-bit (c .before)) ∙ c .if2 .left);
       none = λ e. absurd (omega arith);
       small = omega arith;
     }

@@ -18,17 +18,22 @@ element-write-words c = omega (arith, ltb-true)
 
 returns : tie.Need-returns
 returns c =
-    let start = c .before .before .before .before in
-    let words = now (start .args .words) in (
+    let chosen = c .before .before in
+    let start = chosen .before .before in
+    let words = now (start .args .words) in
+    let j = start .args .j in
+    let set = c .set-in-word in (
       λ i.
-          rw (c .before .before .before .if1 .taken, c .before .before .if2 .taken, and-true)
-          (bit-set words (c .set-in-word .result) i (start .args .j) (start .pre) (omega (arith, ltb-true)) (c .set-in-word .ensures)),
-      encoded-set words (start .args .j / 64) (c .set-in-word .result) (start .pre) (omega (arith, c .set-in-word .ok)),
+          rw (chosen .before .if1 .taken, chosen .if2 .taken, and-true)
+          (bit-set words (set .result) i j (start .pre) (omega (arith, ltb-true)) (set .ensures)),
+      encoded-set words (j / 64) (set .result) (start .pre) (omega (arith, set .ok)),
     )
 
 returns-2 : tie.Need-returns-2
-returns-2 c =
-    (λ i. ⊎-elim (λ w. rw (w .0 .taken, w .1 .left, and-false, or-false)) (λ w. rw (w .left, or-false)) (c .if1 .came), c .before .pre)
+returns-2 c = (
+  λ i. ⊎-elim (λ w. rw (w .0 .taken, w .1 .left, and-false, or-false)) (λ w. rw (w .left, or-false)) (c .if1 .came),
+  c .before .pre,
+)
 
 pub put-spec : {M : Type 1} → statement M
 put-spec =

@@ -31,7 +31,9 @@ loop-again : tie.Need-loop-again Inv-loop μ-loop
 loop-again c = omega (arith, size-word (c .before .before .before .args .t1) (c .before .before .loop .i))
 
 returns : tie.Need-returns Inv-loop μ-loop
-returns c = let all : 64 * c .before .loop .i ≡ 1024 = omega arith in rw all at (c .before .loop .inv .1)
+returns c =
+    let all : 64 * c .before .loop .i ≡ 1024 = omega arith in
+    rw all at (c .before .loop .inv .1)
 
 pub size-of-spec : {M : Type 1} → statement M
 size-of-spec =

@@ -24,19 +24,23 @@ abbrev μ-loop : tie.MeasureT-loop
 abbrev shares : tie.At-loop Inv-loop μ-loop → List ℤ
 shares c = c .before .args .proposal .now
 
-within : (c : tie.At-loop Inv-loop μ-loop) (part : ℤ → ℕ) (n : ℕ) → ((z : ℤ) → part z ≤ natAbs z) → n ≤ length (shares c)
+within : (c : tie.At-loop Inv-loop μ-loop) (part : ℤ → ℕ) (n : ℕ)
+    → ((z : ℤ) → part z ≤ natAbs z)
+    → n ≤ length (shares c)
     → partSum part (shares c) n ≤ mostTotal
 within c part n size h = sum-most part (shares c) (length (shares c)) size (c .before .pre .0) n (omega arith)
 
-plus-next : (c : tie.After-plus Inv-loop μ-loop) → c .before .before .before .loop .above + c .plus .result
-    ≡ partSum plus (shares (c .before .before .before)) (c .before .before .before .loop .i + 1)
+plus-next : (c : tie.After-plus Inv-loop μ-loop)
+    → let at-loop = c .before .before .before in
+    at-loop .loop .above + c .plus .result ≡ partSum plus (shares at-loop) (at-loop .loop .i + 1)
 plus-next c =
     let at-loop = c .before .before .before in
     sum-next plus (shares at-loop) (at-loop .loop .i) (at-loop .loop .inv .1)
     (rw (toZ-ofZ {w = w64} (record { sfits = c .before .plus-arg .given })) at (c .plus .ensures))
 
-minus-next : (c : tie.After-minus Inv-loop μ-loop) → c .before .before .before .before .before .loop .below + c .minus .result
-    ≡ partSum minus (shares (c .before .before .before .before .before)) (c .before .before .before .before .before .loop .i + 1)
+minus-next : (c : tie.After-minus Inv-loop μ-loop)
+    → let at-loop = c .before .before .before .before .before in
+    at-loop .loop .below + c .minus .result ≡ partSum minus (shares at-loop) (at-loop .loop .i + 1)
 minus-next c =
     let at-loop = c .before .before .before .before .before in
     sum-next minus (shares at-loop) (at-loop .loop .i) (at-loop .loop .inv .2)

@@ -6,7 +6,9 @@ use Rattle.checks.proofs.caps.check_cap.Statement.{statement}
 use Rattle.checks.proofs.caps.check_cap.Tie as tie
 
 returns : tie.Need-returns
-returns c = rw (lt-ltb mostShare (c .before .before .args .cap) (omega (arith, c .before .if1 .taken))) (c .refuse .ensures)
+returns c =
+    let cap = c .before .before .args .cap in
+    rw (lt-ltb mostShare cap (omega (arith, c .before .if1 .taken))) (c .refuse .ensures)
 
 returns-2 : tie.Need-returns-2
 returns-2 c = rw (le-ltb mostShare (c .before .args .cap) (omega (arith, c .if1 .left)))

@@ -21,13 +21,17 @@ loop-holds c = (search needs, refl)
 
 returns : tie.Need-returns Inv-loop μ-loop
 returns c =
-    range-stop outsideCap 0 _ _ _ (omega arith) (c .before .before .check-cap .ensures) (c .before .before .before .before .before .loop .inv .1) (c .enum-told2 .given .1)
+    let checked = c .before .before in
+    let inv = checked .before .before .before .loop .inv in
+    range-stop outsideCap 0 _ _ _ (omega arith) (checked .check-cap .ensures) (inv .1) (c .enum-told2 .given .1)
 
 loop-again : tie.Need-loop-again Inv-loop μ-loop
-loop-again c = (
-  omega arith,
-  range-on outsideCap 0 _ _ _ (omega arith) (c .before .before .check-cap .ensures) (c .before .before .before .before .before .loop .inv .1) (c .enum-told .given .1),
-)
+loop-again c =
+    let checked = c .before .before in
+    let inv = checked .before .before .before .loop .inv in (
+      omega arith,
+      range-on outsideCap 0 _ _ _ (omega arith) (checked .check-cap .ensures) (inv .1) (c .enum-told .given .1),
+    )
 
 returns-2 : tie.Need-returns-2 Inv-loop μ-loop
 returns-2 c = sym (c .before .loop .inv .1 ∙ range-end outsideCap _ _ _ (c .loop-test .left))

@@ -21,4 +21,6 @@ returns-3 c =
     rw (neither-outside (start .args .x) (rw back at (c .before .if1 .left)) (rw back at (c .if2 .left)))
 
 pub check-share-spec : {M : Type 1} → statement M
-check-share-spec = tie.close (tie.spec (λ c. search needs) (λ c κs. search needs) returns (λ c κs. search needs) returns-2 returns-3)
+check-share-spec =
+    tie.close
+    (tie.spec (λ c. search needs) (λ c κs. search needs) returns (λ c κs. search needs) returns-2 returns-3)

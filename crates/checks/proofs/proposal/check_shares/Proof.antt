@@ -27,22 +27,22 @@ loop-holds c = (search needs, refl)
 
 -- what is found at place i
 here : (c : tie.After-check-share Inv-loop μ-loop)
-    → checkOf (c .check-share .result)
-    ≡ fault (outsideShare (share (c .before .before .before .before .args .proposal .now) (c .before .before .before .loop .i))) 7
-    (c .before .before .before .loop .i)
+    → let at = c .before .before .before in
+    checkOf (c .check-share .result)
+    ≡ fault (outsideShare (share (at .before .args .proposal .now) (at .loop .i))) 7 (at .loop .i)
 here c = rw (toZ-ofZ {w = w64} (record { sfits = c .before .check-share-arg .given })) at (c .check-share .ensures)
 
 returns : tie.Need-returns Inv-loop μ-loop
 returns c =
-    range-stop outsideShare (pos 0) _ _ _ (omega arith) (here (c .before .before))
-    (c .before .before .before .before .before .loop .inv .1) (c .enum-told2 .given .1)
+    let checked = c .before .before in
+    let inv = checked .before .before .before .loop .inv in
+    range-stop outsideShare (pos 0) _ _ _ (omega arith) (here checked) (inv .1) (c .enum-told2 .given .1)
 
 loop-again : tie.Need-loop-again Inv-loop μ-loop
-loop-again c = (
-  omega arith,
-  range-on outsideShare (pos 0) _ _ _ (omega arith) (here (c .before .before))
-      (c .before .before .before .before .before .loop .inv .1) (c .enum-told .given .1),
-)
+loop-again c =
+    let checked = c .before .before in
+    let inv = checked .before .before .before .loop .inv in
+    (omega arith, range-on outsideShare (pos 0) _ _ _ (omega arith) (here checked) (inv .1) (c .enum-told .given .1))
 
 returns-2 : tie.Need-returns-2 Inv-loop μ-loop
 returns-2 c = sym (c .before .loop .inv .1 ∙ range-end outsideShare _ _ _ (c .loop-test .left))

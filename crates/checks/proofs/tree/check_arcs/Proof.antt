@@ -11,7 +11,9 @@ use Rattle.checks.proofs.tree.check_arcs.Tie as tie
 
 abbrev Inv-loop : tie.InvT-loop
 Inv-loop parents costs i₀ i =
-    (i ≤ length parents) × (length parents ≡ length costs) × (arcsCheck 1 parents costs ≡ arcsCheck (i + 1) (drop i parents) (drop i costs))
+    (i ≤ length parents)
+    × (length parents ≡ length costs)
+    × (arcsCheck 1 parents costs ≡ arcsCheck (i + 1) (drop i parents) (drop i costs))
 
 abbrev μ-loop : tie.MeasureT-loop
 μ-loop parents costs i₀ i = length parents - i
@@ -21,16 +23,21 @@ loop-holds c = (search needs, search needs, refl)
 
 returns : tie.Need-returns Inv-loop μ-loop
 returns c =
-    arcs-stop _ _ _ _ (omega arith) (omega arith) (c .before .before .check-arc .ensures)
-    (c .before .before .before .before .before .before .loop .inv .2) (c .enum-told2 .given .1)
+    let checked = c .before .before in
+    let inv = checked .before .before .before .before .loop .inv in
+    arcs-stop _ _ _ _ (omega arith) (omega arith) (checked .check-arc .ensures) (inv .2) (c .enum-told2 .given .1)
 
 loop-less : tie.Need-loop-less Inv-loop μ-loop
 loop-less c = omega arith
 
 loop-again : tie.Need-loop-again Inv-loop μ-loop
 loop-again c =
-    let before = c .before .before .before .before .before .before .loop .inv in
-    (omega arith, before .1, arcs-on _ _ _ _ (omega arith) (omega arith) (c .before .before .check-arc .ensures) (before .2) (c .enum-told .given .1))
+    let checked = c .before .before in
+    let inv = checked .before .before .before .before .loop .inv in (
+      omega arith,
+      inv .1,
+      arcs-on _ _ _ _ (omega arith) (omega arith) (checked .check-arc .ensures) (inv .2) (c .enum-told .given .1),
+    )
 
 returns-2 : tie.Need-returns-2 Inv-loop μ-loop
 returns-2 c = sym (c .before .loop .inv .2 ∙ arcs-end _ _ _ _ (c .loop-test .left))
