@@ -26,6 +26,7 @@ answered accepted x v e = (refl, cc)
 answered (refused number place) x v e = let z : _≡_ {A = ℕ} 0 1 = cc in absurd (omega arith)
 
 -- an answer that is a refusal: the check found it
-pub refused-answer : {A : Type 0} (check : Check) (x : A) {number place : ℕ} → refusal number place ≡ answer check x → check ≡ refused number place
+pub refused-answer : {A : Type 0} (check : Check) (x : A) {number place : ℕ} → refusal number place ≡ answer check x
+    → check ≡ refused number place
 refused-answer accepted x e = let z : _≡_ {A = ℕ} 0 1 = cc in absurd (omega arith)
 refused-answer (refused number place) x e = cc

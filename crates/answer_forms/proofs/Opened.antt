@@ -12,4 +12,5 @@ module _ {check : Check} {c : Checked} (is : checkOf c ≡ check) where
 
   -- r is the refusal that is handed on
   pub turned-away : {x r : Refusal} → c ≡ Refused x → r ≡ refusalOf c → check ≡ refused (r .number) (r .place)
-  turned-away e d = sym is ∙ ap checkOf e ∙ ap (λ (y : Refusal). refused (y .number) (y .place)) (sym (d ∙ ap refusalOf e))
+  turned-away e d =
+      sym is ∙ ap checkOf e ∙ ap (λ (y : Refusal). refused (y .number) (y .place)) (sym (d ∙ ap refusalOf e))

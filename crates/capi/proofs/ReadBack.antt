@@ -17,11 +17,14 @@ use Rattle.answers.specs.Audit.{Verdict, wrongTotal, objection, pass, auditAnsw
 use Rattle.answers.specs.Level.{LevelAnswer, outsideCap, capsCheck, shortArc, levelOr, splitOr9, levelAnswer}
 use Rattle.answers.specs.ByArc.{byArcAnswer}
 use Rattle.job.specs.Reader.{Lent, readCheck, jobAnswer}
-use Rattle.capi.specs.Structs.{encodeMembers, decodeMembers, encodeNeeds, decodeNeeds, encodeGroup, decodeGroup, encodeAudit, decodeAudit, VerdictUnlessRefused, encodeLevel, decodeLevel, encodeJob, decodeJob}
+use Rattle.capi.specs.Structs.{encodeMembers, decodeMembers, encodeNeeds, decodeNeeds, encodeGroup, decodeGroup}
+use Rattle.capi.specs.Structs.{encodeAudit, decodeAudit, VerdictUnlessRefused, encodeLevel, decodeLevel}
+use Rattle.capi.specs.Structs.{encodeJob, decodeJob}
 use Rattle.capi.proofs.Kept.{Kept, then-kept, tree-kept, bits-kept, list-kept, output-kept, read-kept}
 
 -- s is the struct of an answer that can be read back: what it stands for, and that its other fields are 0
-pub stands-for : {A S : Type 0} (encode : A → S) (decode : S → A) {a found : A} {s : S} → s ≡ encode found → found ≡ a → decode (encode a) ≡ a
+pub stands-for : {A S : Type 0} (encode : A → S) (decode : S → A) {a found : A} {s : S} → s ≡ encode found → found ≡ a
+    → decode (encode a) ≡ a
     → (decode s ≡ a) × (s ≡ encode (decode s))
 stands-for encode decode is finds back =
     let e = is ∙ ap encode finds in
@@ -31,7 +34,8 @@ stands-for encode decode is finds back =
 not-zero : {place : ℕ} → accepted ≡ refused 0 place → ⊥
 not-zero e = let z : _≡_ {A = ℕ} 0 1 = cc in omega arith
 
-module _ {A S : Type 0} (encode : Answer A → S) (decode : S → Answer A) (values : (x : A) → decode (encode (value x)) ≡ value x)
+module _ {A S : Type 0} (encode : Answer A → S) (decode : S → Answer A)
+    (values : (x : A) → decode (encode (value x)) ≡ value x)
     (refusals : (n place : ℕ) → decode (encode (refusal (suc n) place)) ≡ refusal (suc n) place) where
   answer-back : (c : Check) (x : A) → Kept c → decode (encode (answer c x)) ≡ answer c x
   answer-back accepted x kept = values x
@@ -50,21 +54,26 @@ member-count-back t = count-back (treeCheck t) (memberCount (network t)) (tree-k
 
 pub members-back : (t : Tree) (out : List ℕ) → decodeMembers (encodeMembers (membersAnswer t out)) ≡ membersAnswer t out
 unfolding membersAnswer
-members-back t out = count-back (membersCheck t out) (memberCount (network t)) (members-kept t (memberCount (network t)) out)
+members-back t out =
+    count-back (membersCheck t out) (memberCount (network t)) (members-kept t (memberCount (network t)) out)
 
 pub by-arc-back : (t : Tree) (out : List ℕ) → decodeMembers (encodeMembers (byArcAnswer t out)) ≡ byArcAnswer t out
 unfolding byArcAnswer
-by-arc-back t out = count-back (membersCheck t out) (memberCount (network t)) (members-kept t (memberCount (network t)) out)
+by-arc-back t out =
+    count-back (membersCheck t out) (memberCount (network t)) (members-kept t (memberCount (network t)) out)
 
 pub needs-back : (t : Tree) (out : List ℕ) → decodeNeeds (encodeNeeds (needsAnswer t out)) ≡ needsAnswer t out
 unfolding needsAnswer
-needs-back t out = answer-back encodeNeeds decodeNeeds (λ x. refl) (λ n place. refl) _ _ (members-kept t (length (t .parents)) out)
+needs-back t out =
+    answer-back encodeNeeds decodeNeeds (λ x. refl) (λ n place. refl) _ _ (members-kept t (length (t .parents)) out)
 
-pub group-back : (t : Tree) (words : List ℕ) → decodeGroup (encodeGroup (groupCostAnswer t words)) ≡ groupCostAnswer t words
+pub group-back : (t : Tree) (words : List ℕ)
+    → decodeGroup (encodeGroup (groupCostAnswer t words)) ≡ groupCostAnswer t words
 unfolding groupCostAnswer
 group-back t words =
     answer-back encodeGroup decodeGroup (λ x. refl) (λ n place. refl) _ _
-    (then-kept (treeCheck t) (groupCheck (memberCount (network t)) words) (tree-kept t) (bits-kept words (1024 - memberCount (network t)) (memberCount (network t))))
+    (then-kept (treeCheck t) (groupCheck (memberCount (network t)) words) (tree-kept t)
+    (bits-kept words (1024 - memberCount (network t)) (memberCount (network t))))
 
 pub audit-back : (a : Answer Verdict) (words : List ℕ) → decodeAudit (encodeAudit a words) ≡ a
 audit-back (value (wrongTotal difference)) words = refl
@@ -88,7 +97,8 @@ audit-verdict t shares words =
     (then-kept (treeCheck t) (proposalCheck (memberCount (network t)) shares) (tree-kept t)
     (list-kept outsideShare (memberCount (network t)) shares))
 
-level-or-back : (c : Check) (a : LevelAnswer) → Kept c → decodeLevel (encodeLevel a) ≡ a → decodeLevel (encodeLevel (levelOr c a)) ≡ levelOr c a
+level-or-back : (c : Check) (a : LevelAnswer) → Kept c → decodeLevel (encodeLevel a) ≡ a
+    → decodeLevel (encodeLevel (levelOr c a)) ≡ levelOr c a
 level-or-back accepted a kept back = back
 level-or-back (refused zero place) a kept back = absurd (not-zero kept)
 level-or-back (refused (suc n) place) a kept back = refl
@@ -97,7 +107,8 @@ split-back : (n : Network) (caps : List ℕ) (k : ℕ) → decodeLevel (encodeLe
 split-back n caps zero = refl
 split-back n caps (suc k) = refl
 
-pub level-back : (t : Tree) (caps out : List ℕ) → decodeLevel (encodeLevel (levelAnswer t caps out)) ≡ levelAnswer t caps out
+pub level-back : (t : Tree) (caps out : List ℕ)
+    → decodeLevel (encodeLevel (levelAnswer t caps out)) ≡ levelAnswer t caps out
 unfolding levelAnswer
 level-back t caps out =
     level-or-back _ _
@@ -108,4 +119,5 @@ level-back t caps out =
 
 pub job-back : (bytes : List ℕ) (l : Lent) → decodeJob (encodeJob (jobAnswer bytes l)) ≡ jobAnswer bytes l
 unfolding jobAnswer
-job-back bytes l = answer-back encodeJob decodeJob (λ x. refl) (λ n place. refl) (readCheck bytes l) _ (read-kept bytes l)
+job-back bytes l =
+    answer-back encodeJob decodeJob (λ x. refl) (λ n place. refl) (readCheck bytes l) _ (read-kept bytes l)

@@ -61,14 +61,24 @@ decodeGroup s = valueOr (s .refusal) (s .place) (record { size = s .size; cost =
 
 -- an audit that is not refused
 abbrev pub auditedStruct : (verdict : ℕ) → ℤ → (amount size : ℕ) → List ℕ → ZilqodurAudit
-auditedStruct verdict difference amount size words = record { refusal = 0; place = 0; verdict = verdict; difference = difference; amount = amount; size = size; group = words }
+auditedStruct verdict difference amount size words =
+    record {
+      refusal = 0;
+      place = 0;
+      verdict = verdict;
+      difference = difference;
+      amount = amount;
+      size = size;
+      group = words;
+    }
 
 -- the verdict is 0 in a refusal, 1 for pass, 2 for a wrong total, 3 for an objection
 abbrev pub encodeAudit : Answer Verdict → List ℕ → ZilqodurAudit
 encodeAudit (value pass) words = auditedStruct 1 (pos 0) 0 0 words
 encodeAudit (value (wrongTotal difference)) words = auditedStruct 2 difference 0 0 words
 encodeAudit (value (objection amount size)) words = auditedStruct 3 (pos 0) amount size words
-encodeAudit (refusal number place) words = record { refusal = number; place = place; verdict = 0; difference = pos 0; amount = 0; size = 0; group = words }
+encodeAudit (refusal number place) words =
+    record { refusal = number; place = place; verdict = 0; difference = pos 0; amount = 0; size = 0; group = words }
 
 -- what the struct stands for, by its verdict
 abbrev pub auditBy : ZilqodurAudit → (verdict : ℕ) → Answer Verdict
@@ -86,7 +96,8 @@ VerdictUnlessRefused s = eqb (s .verdict) 0 ≡ not (eqb (s .refusal) 0)
 
 abbrev pub encodeLevel : LevelAnswer → ZilqodurLevel
 encodeLevel (split members) = record { refusal = 0; place = 0; shortfall = 0; members = members }
-encodeLevel (notSplit number place shortfall) = record { refusal = number; place = place; shortfall = shortfall; members = 0 }
+encodeLevel (notSplit number place shortfall) =
+    record { refusal = number; place = place; shortfall = shortfall; members = 0 }
 
 -- a split where the refusal's number is 0
 abbrev pub splitOr : (number place shortfall members : ℕ) → LevelAnswer

@@ -39,7 +39,8 @@ pub extern "C" fn zilqodur_group_cost(
     costs: &[u32],
     group: &[u64; 16],
 ) -> ZilqodurGroup
-    ensures { λ r. ⌜ decodeGroup r ≡ groupCostAnswer (treeOf (now (parents .entry)) (now (costs .entry))) (now (group .entry)) ⌝ }
+    ensures { λ r. ⌜ decodeGroup r
+        ≡ groupCostAnswer (treeOf (now (parents .entry)) (now (costs .entry))) (now (group .entry)) ⌝ }
     ensures { λ r. ⌜ r ≡ encodeGroup (decodeGroup r) ⌝ }
 {
     encode(engine::group_cost(parents, costs, *group))

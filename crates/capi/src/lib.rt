@@ -1,4 +1,5 @@
-// The public entries for C: each calls one entry and answers a struct of numbers. A refusal of 0 means that there is none.
+// The public entries for C: each calls one entry and answers a struct of numbers. A refusal of 0 means that there is
+// none.
 mod check;
 mod group;
 mod members;

@@ -45,9 +45,11 @@ pub extern "C" fn zilqodur_list_members(
     costs: &[u32],
     out: &mut [u16],
 ) -> ZilqodurMembers
-    ensures { λ r. ⌜ decodeMembers r ≡ membersAnswer (treeOf (now (parents .entry)) (now (costs .entry))) (now (out .entry)) ⌝ }
+    ensures { λ r. ⌜ decodeMembers r
+        ≡ membersAnswer (treeOf (now (parents .entry)) (now (costs .entry))) (now (out .entry)) ⌝ }
     ensures { λ r. ⌜ r ≡ encodeMembers (decodeMembers r) ⌝ }
-    ensures { λ _. ⌜ now (out .exit) ≡ membersList (treeOf (now (parents .entry)) (now (costs .entry))) (now (out .entry)) ⌝ }
+    ensures { λ _. ⌜ now (out .exit)
+        ≡ membersList (treeOf (now (parents .entry)) (now (costs .entry))) (now (out .entry)) ⌝ }
 {
     encode(engine::list_members(parents, costs, out))
 }
@@ -58,9 +60,11 @@ pub extern "C" fn zilqodur_split_by_arc(
     costs: &[u32],
     out: &mut [u64],
 ) -> ZilqodurMembers
-    ensures { λ r. ⌜ decodeMembers r ≡ byArcAnswer (treeOf (now (parents .entry)) (now (costs .entry))) (now (out .entry)) ⌝ }
+    ensures { λ r. ⌜ decodeMembers r
+        ≡ byArcAnswer (treeOf (now (parents .entry)) (now (costs .entry))) (now (out .entry)) ⌝ }
     ensures { λ r. ⌜ r ≡ encodeMembers (decodeMembers r) ⌝ }
-    ensures { λ _. ⌜ now (out .exit) ≡ byArcList (treeOf (now (parents .entry)) (now (costs .entry))) (now (out .entry)) ⌝ }
+    ensures { λ _. ⌜ now (out .exit)
+        ≡ byArcList (treeOf (now (parents .entry)) (now (costs .entry))) (now (out .entry)) ⌝ }
 {
     encode(engine::split_by_arc(parents, costs, out))
 }

@@ -39,9 +39,11 @@ pub extern "C" fn zilqodur_list_needs(
     costs: &[u32],
     out: &mut [u64],
 ) -> ZilqodurNeeds
-    ensures { λ r. ⌜ decodeNeeds r ≡ needsAnswer (treeOf (now (parents .entry)) (now (costs .entry))) (now (out .entry)) ⌝ }
+    ensures { λ r. ⌜ decodeNeeds r
+        ≡ needsAnswer (treeOf (now (parents .entry)) (now (costs .entry))) (now (out .entry)) ⌝ }
     ensures { λ r. ⌜ r ≡ encodeNeeds (decodeNeeds r) ⌝ }
-    ensures { λ _. ⌜ now (out .exit) ≡ needsList (treeOf (now (parents .entry)) (now (costs .entry))) (now (out .entry)) ⌝ }
+    ensures { λ _. ⌜ now (out .exit)
+        ≡ needsList (treeOf (now (parents .entry)) (now (costs .entry))) (now (out .entry)) ⌝ }
 {
     encode(engine::list_needs(parents, costs, out))
 }

@@ -46,9 +46,13 @@ pub extern "C" fn zilqodur_read_job(
     caps: &mut [u64],
     proposals: &mut [i64],
 ) -> ZilqodurJob
-    ensures { λ r. ⌜ decodeJob r ≡ jobAnswer (now (bytes .entry)) (lent (now (parents .entry)) (now (costs .entry)) (now (caps .entry)) (now (proposals .entry))) ⌝ }
+    ensures { λ r. ⌜ decodeJob r
+        ≡ jobAnswer (now (bytes .entry))
+        (lent (now (parents .entry)) (now (costs .entry)) (now (caps .entry)) (now (proposals .entry))) ⌝ }
     ensures { λ r. ⌜ r ≡ encodeJob (decodeJob r) ⌝ }
-    ensures { λ _. ⌜ lent (now (parents .exit)) (now (costs .exit)) (now (caps .exit)) (now (proposals .exit)) ≡ jobLists (now (bytes .entry)) (lent (now (parents .entry)) (now (costs .entry)) (now (caps .entry)) (now (proposals .entry))) ⌝ }
+    ensures { λ _. ⌜ lent (now (parents .exit)) (now (costs .exit)) (now (caps .exit)) (now (proposals .exit))
+        ≡ jobLists (now (bytes .entry))
+        (lent (now (parents .entry)) (now (costs .entry)) (now (caps .entry)) (now (proposals .entry))) ⌝ }
 {
     encode(job::read(bytes, parents, costs, caps, proposals))
 }

@@ -44,9 +44,11 @@ pub extern "C" fn zilqodur_split_level(
     caps: &[u64],
     out: &mut [u64],
 ) -> ZilqodurLevel
-    ensures { λ r. ⌜ decodeLevel r ≡ levelAnswer (treeOf (now (parents .entry)) (now (costs .entry))) (now (caps .entry)) (now (out .entry)) ⌝ }
+    ensures { λ r. ⌜ decodeLevel r
+        ≡ levelAnswer (treeOf (now (parents .entry)) (now (costs .entry))) (now (caps .entry)) (now (out .entry)) ⌝ }
     ensures { λ r. ⌜ r ≡ encodeLevel (decodeLevel r) ⌝ }
-    ensures { λ _. ⌜ now (out .exit) ≡ levelList (treeOf (now (parents .entry)) (now (costs .entry))) (now (caps .entry)) (now (out .entry)) ⌝ }
+    ensures { λ _. ⌜ now (out .exit)
+        ≡ levelList (treeOf (now (parents .entry)) (now (costs .entry))) (now (caps .entry)) (now (out .entry)) ⌝ }
 {
     encode(engine::split_level(parents, costs, caps, out))
 }

@@ -61,8 +61,11 @@ fn encode(found: AuditFound, group: [u64; 16]) -> ZilqodurAudit
 
 #[no_mangle]
 pub extern "C" fn zilqodur_audit(parents: &[u16], costs: &[u32], proposal: &[i64]) -> ZilqodurAudit
-    ensures { λ r. ⌜ decodeAudit r ≡ auditAnswer (treeOf (now (parents .entry)) (now (costs .entry))) (now (proposal .entry)) ⌝ }
-    ensures { λ r. ⌜ r ≡ encodeAudit (decodeAudit r) (auditWords (treeOf (now (parents .entry)) (now (costs .entry))) (now (proposal .entry))) ⌝ }
+    ensures { λ r. ⌜ decodeAudit r
+        ≡ auditAnswer (treeOf (now (parents .entry)) (now (costs .entry))) (now (proposal .entry)) ⌝ }
+    ensures { λ r. ⌜ r
+        ≡ encodeAudit (decodeAudit r)
+        (auditWords (treeOf (now (parents .entry)) (now (costs .entry))) (now (proposal .entry))) ⌝ }
     ensures { λ r. ⌜ VerdictUnlessRefused r ⌝ }
 {
     let audited = engine::audit(parents, costs, proposal);

@@ -16,13 +16,15 @@ use Rattle.answers.specs.Audit.{isZero}
 use Rattle.answers.proofs.AuditLaws.{is-zero}
 
 module _ (n : Network) (shares : List ℤ) (one-a-member : length shares ≡ memberCount n) {above below : ℕ}
-    (is-above : above ≡ sum (length shares) (λ i. plus (share shares (pred i)))) (is-below : below ≡ sum (length shares) (λ i. minus (share shares (pred i)))) where
+    (is-above : above ≡ sum (length shares) (λ i. plus (share shares (pred i))))
+    (is-below : below ≡ sum (length shares) (λ i. minus (share shares (pred i)))) where
   less-difference : Less (difference n shares) above (below + wholeCost n)
   unfolding pays
   less-difference =
       omega (
         arith,
-        less-minus (pays n shares (λ j. true)) (pos (wholeCost n)) (less-sum (memberCount n) (λ j. true) (share shares)) (less-parts (pos (wholeCost n))),
+        less-minus (pays n shares (λ j. true)) (pos (wholeCost n))
+            (less-sum (memberCount n) (λ j. true) (share shares)) (less-parts (pos (wholeCost n))),
         ap (λ (k : ℕ). sum k (λ i. plus (share shares (pred i)))) one-a-member,
         ap (λ (k : ℕ). sum k (λ i. minus (share shares (pred i)))) one-a-member,
       )
@@ -31,7 +33,11 @@ module _ (n : Network) (shares : List ℤ) (one-a-member : length shares ≡ mem
   adds-up e = ap isZero (less-same (difference n shares) (pos 0) less-difference (less-parts (pos 0)) (omega arith))
 
   pub off-by : difference n shares ≡ subℕ above (below + wholeCost n)
-  off-by = less-same (difference n shares) (subℕ above (below + wholeCost n)) less-difference (less-sub above (below + wholeCost n)) (omega arith)
+  off-by =
+      less-same (difference n shares) (subℕ above (below + wholeCost n)) less-difference
+      (less-sub above (below + wholeCost n)) (omega arith)
 
   pub not-zero : (above ≡ below + wholeCost n → ⊥) → isZero (difference n shares) ≡ false
-  not-zero h = not-so (isZero (difference n shares)) (λ e. h (omega (arith, less-is less-difference (less-parts (pos 0)) (is-zero (difference n shares) e))))
+  not-zero h =
+      not-so (isZero (difference n shares))
+      (λ e. h (omega (arith, less-is less-difference (less-parts (pos 0)) (is-zero (difference n shares) e))))

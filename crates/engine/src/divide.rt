@@ -25,8 +25,10 @@ fn divide(parents: &[u16], costs: &[u32], vertices: &mut [u16], out: &mut [u64])
 
 // Writes one share a member. 1 to 4, then 8.
 pub fn split_by_arc(parents: &[u16], costs: &[u32], out: &mut [u64]) -> MemberCount
-    ensures { λ r. ⌜ memberCountOf r ≡ byArcAnswer (treeOf (now (parents .entry)) (now (costs .entry))) (now (out .entry)) ⌝ }
-    ensures { λ _. ⌜ now (out .exit) ≡ byArcList (treeOf (now (parents .entry)) (now (costs .entry))) (now (out .entry)) ⌝ }
+    ensures { λ r. ⌜ memberCountOf r
+        ≡ byArcAnswer (treeOf (now (parents .entry)) (now (costs .entry))) (now (out .entry)) ⌝ }
+    ensures { λ _. ⌜ now (out .exit)
+        ≡ byArcList (treeOf (now (parents .entry)) (now (costs .entry))) (now (out .entry)) ⌝ }
 {
     let tree = checks::check_tree(parents, costs);
     let Checked::Accepted = tree else {

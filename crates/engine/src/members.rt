@@ -24,8 +24,10 @@ pub fn count_members(parents: &[u16], costs: &[u32]) -> MemberCount
 
 // Writes the members' vertices in rising order. 1 to 4, then 8.
 pub fn list_members(parents: &[u16], costs: &[u32], out: &mut [u16]) -> MemberCount
-    ensures { λ r. ⌜ memberCountOf r ≡ membersAnswer (treeOf (now (parents .entry)) (now (costs .entry))) (now (out .entry)) ⌝ }
-    ensures { λ _. ⌜ now (out .exit) ≡ membersList (treeOf (now (parents .entry)) (now (costs .entry))) (now (out .entry)) ⌝ }
+    ensures { λ r. ⌜ memberCountOf r
+        ≡ membersAnswer (treeOf (now (parents .entry)) (now (costs .entry))) (now (out .entry)) ⌝ }
+    ensures { λ _. ⌜ now (out .exit)
+        ≡ membersList (treeOf (now (parents .entry)) (now (costs .entry))) (now (out .entry)) ⌝ }
 {
     let tree = checks::check_tree(parents, costs);
     let Checked::Accepted = tree else {

@@ -14,7 +14,8 @@ pub enum NeedsFound {
 // Writes the need of each arc. 1 to 4, then 8.
 pub fn list_needs(parents: &[u16], costs: &[u32], out: &mut [u64]) -> NeedsFound
     ensures { λ r. ⌜ needsOf r ≡ needsAnswer (treeOf (now (parents .entry)) (now (costs .entry))) (now (out .entry)) ⌝ }
-    ensures { λ _. ⌜ now (out .exit) ≡ needsList (treeOf (now (parents .entry)) (now (costs .entry))) (now (out .entry)) ⌝ }
+    ensures { λ _. ⌜ now (out .exit)
+        ≡ needsList (treeOf (now (parents .entry)) (now (costs .entry))) (now (out .entry)) ⌝ }
 {
     let tree = checks::check_tree(parents, costs);
     let Checked::Accepted = tree else {

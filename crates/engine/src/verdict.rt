@@ -38,8 +38,11 @@ fn refused(r: Refusal) -> Audited
 // The verdict of the group search.
 fn search_verdict(parents: &[u16], costs: &[u32], proposal: &[i64]) -> Audited
     requires { ⌜ auditCheck (treeOf (now parents) (now costs)) (now proposal) ≡ accepted ⌝ }
-    ensures { λ r. ⌜ auditOf (r .answer) ≡ value (searchVerdict (networkOf (now (parents .entry)) (now (costs .entry))) (now (proposal .entry))) ⌝ }
-    ensures { λ r. ⌜ r .group ≡ wordsBeside (auditOf (r .answer)) (wordsOf (isIn (named (networkOf (now (parents .entry)) (now (costs .entry))) (now (proposal .entry))))) ⌝ }
+    ensures { λ r. ⌜ auditOf (r .answer)
+        ≡ value (searchVerdict (networkOf (now (parents .entry)) (now (costs .entry))) (now (proposal .entry))) ⌝ }
+    ensures { λ r. ⌜ r .group
+        ≡ wordsBeside (auditOf (r .answer))
+        (wordsOf (isIn (named (networkOf (now (parents .entry)) (now (costs .entry))) (now (proposal .entry))))) ⌝ }
 {
     let found = search::search(parents, costs, proposal);
     let amount = found.amount;
@@ -59,8 +62,10 @@ fn search_verdict(parents: &[u16], costs: &[u32], proposal: &[i64]) -> Audited
 
 // 1 to 4, then 6 and 7.
 pub fn audit(parents: &[u16], costs: &[u32], proposal: &[i64]) -> Audited
-    ensures { λ r. ⌜ auditOf (r .answer) ≡ auditAnswer (treeOf (now (parents .entry)) (now (costs .entry))) (now (proposal .entry)) ⌝ }
-    ensures { λ r. ⌜ r .group ≡ auditWords (treeOf (now (parents .entry)) (now (costs .entry))) (now (proposal .entry)) ⌝ }
+    ensures { λ r. ⌜ auditOf (r .answer)
+        ≡ auditAnswer (treeOf (now (parents .entry)) (now (costs .entry))) (now (proposal .entry)) ⌝ }
+    ensures { λ r. ⌜ r .group
+        ≡ auditWords (treeOf (now (parents .entry)) (now (costs .entry))) (now (proposal .entry)) ⌝ }
 {
     let tree = checks::check_tree(parents, costs);
     let Checked::Accepted = tree else {

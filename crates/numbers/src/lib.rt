@@ -1,4 +1,5 @@
-// A bit of a word; signed numbers by their parts and bits; and small choices between numbers, so that the loops that use them have no branch.
+// A bit of a word; signed numbers by their parts and bits; and small choices between numbers, so that the loops that
+// use them have no branch.
 mod signed;
 
 pub use signed::minus;

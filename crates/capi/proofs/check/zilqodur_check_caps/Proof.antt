@@ -8,7 +8,9 @@ use Rattle.capi.proofs.check.zilqodur_check_caps.Statement.{statement}
 use Rattle.capi.proofs.check.zilqodur_check_caps.Tie as tie
 
 returns : tie.Need-returns
-returns c = stands-for encodeCheck decodeCheck (c .encode .ensures) (c .before .check-caps .ensures) (list-kept outsideCap (c .before .before .before .args .members) (now (c .before .before .before .args .caps)))
+returns c =
+    stands-for encodeCheck decodeCheck (c .encode .ensures) (c .before .check-caps .ensures)
+    (list-kept outsideCap (c .before .before .before .args .members) (now (c .before .before .before .args .caps)))
 
 pub zilqodur-check-caps-spec : {M : Type 1} → statement M
 zilqodur-check-caps-spec = tie.close (tie.spec (λ c κs. search needs) (λ c κs. search needs) returns)

@@ -6,8 +6,10 @@ use Rattle.capi.proofs.members.zilqodur_split_by_arc.Tie as tie
 
 returns : tie.Need-returns
 returns c =
-    let r = stands-for encodeMembers decodeMembers (c .encode .ensures) (c .before .before .before .split-by-arc .ensures .0) (by-arc-back _ _) in
+    let r = stands-for encodeMembers decodeMembers (c .encode .ensures)
+    (c .before .before .before .split-by-arc .ensures .0) (by-arc-back _ _) in
     (r .0, (r .1, c .before .before .before .split-by-arc .ensures .1))
 
 pub zilqodur-split-by-arc-spec : {M : Type 1} → statement M
-zilqodur-split-by-arc-spec = tie.close (tie.spec (λ c κs. search needs) (λ c κs. search needs) (λ c. search needs) returns)
+zilqodur-split-by-arc-spec =
+    tie.close (tie.spec (λ c κs. search needs) (λ c κs. search needs) (λ c. search needs) returns)

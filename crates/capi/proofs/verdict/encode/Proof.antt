@@ -22,7 +22,8 @@ returns c = c .audited .ensures ∙ opened _ (c .before .enum-told .given .1)
 returns-2 : tie.Need-returns-2
 returns-2 c =
     c .audited2 .ensures
-    ∙ ap (λ (d : ℤ). encodeAudit (value (wrongTotal d)) (c .before .before .before .before .args .group)) (toZ-ofZ {w = w64} (record { sfits = c .before .known-told .given .0 .1 }))
+    ∙ ap (λ (d : ℤ). encodeAudit (value (wrongTotal d)) (c .before .before .before .before .args .group))
+    (toZ-ofZ {w = w64} (record { sfits = c .before .known-told .given .0 .1 }))
     ∙ opened _ (c .before .before .found .given .1)
 
 returns-3 : tie.Need-returns-3

@@ -6,7 +6,8 @@ use Rattle.numbers.proofs.signed.plus.Tie as tie
 
 cast-result : tie.Need-cast-result
 cast-result c =
-    rw (toZ-ofZ (c .before .fits .x), other (c .before .fits .x) (c .if1 .left)) (tt, omega (arith, c .before .fits .x .sfits))
+    rw (toZ-ofZ (c .before .fits .x), other (c .before .fits .x) (c .if1 .left))
+    (tt, omega (arith, c .before .fits .x .sfits))
 
 returns : tie.Need-returns
 returns c = rw (negative (c .before .fits .x) (c .if1 .taken))
