@@ -1,46 +1,46 @@
-// The numbers of the refusals.
+// The numbers of the refusals. What each says is also in docs/SPECIFICATION.md §7 and in include/zilqodur.h.
 
-// The parent list has 0 or more than 1,023 entries.
+// The parent list has no entry, or more than 1,023.
 pub const ARC_COUNT: u32 = 1;
 
-// Parent and cost lists differ in length.
+// The parent list and the cost list differ in length.
 pub const TREE_LENGTHS: u32 = 2;
 
 // A parent is not below its arc's number.
 pub const PARENT: u32 = 3;
 
-// A cost is above its limit.
+// A cost is above 1,000,000,000.
 pub const COST: u32 = 4;
 
-// A bit stands at or beyond the number of members.
+// The group has a bit at or beyond the number of members.
 pub const GROUP_BIT: u32 = 5;
 
-// A list with one entry a member has another length.
+// The caps or the proposal do not have one entry a member.
 pub const LIST_LENGTH: u32 = 6;
 
-// An entry of such a list is outside its range.
+// A cap or a proposed share is outside its range.
 pub const LIST_RANGE: u32 = 7;
 
-// An output list's length is not exactly what is written.
+// The output list is not exactly as long as what is written.
 pub const OUTPUT_LENGTH: u32 = 8;
 
-// The caps of an arc's users fall short of its need.
+// The caps of an arc's users add up to less than its need.
 pub const CAPS_SHORT: u32 = 9;
 
 // A list for the job's values has fewer than 1,023 entries.
 pub const JOB_ROOM: u32 = 10;
 
-// A job has fewer than 16 or more than 24,823 bytes.
+// The job has fewer than 16 or more than 24,823 bytes.
 pub const JOB_SIZE: u32 = 11;
 
-// Wrong version or closing bytes.
+// The job's version or closing bytes are wrong.
 pub const JOB_SIGNATURE: u32 = 12;
 
-// Arc offset above 255, or rows and trailer do not meet and end exactly.
+// The job's note is longer than 255 bytes, or its parts do not meet and end exactly.
 pub const JOB_LAYOUT: u32 = 13;
 
-// A filler is not zero.
+// A filler in the job is not zero.
 pub const JOB_FILLER: u32 = 14;
 
-// The job's number of members differs from its tree's.
+// The job's number of members is not its tree's.
 pub const JOB_MEMBERS: u32 = 15;

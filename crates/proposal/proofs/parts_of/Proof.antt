@@ -30,19 +30,23 @@ within : (c : tie.At-loop Inv-loop μ-loop) (part : ℤ → ℕ) (n : ℕ)
     → partSum part (shares c) n ≤ mostTotal
 within c part n size h = sum-most part (shares c) (length (shares c)) size (c .before .pre .0) n (omega arith)
 
+-- the turn's start, from where a share's positive part is known
+abbrev begun : tie.After-plus Inv-loop μ-loop → tie.At-loop Inv-loop μ-loop
+begun c = c .before .before .before
+
 plus-next : (c : tie.After-plus Inv-loop μ-loop)
-    → let at-loop = c .before .before .before in
+    → let at-loop = begun c in
     at-loop .loop .above + c .plus .result ≡ partSum plus (shares at-loop) (at-loop .loop .i + 1)
 plus-next c =
-    let at-loop = c .before .before .before in
+    let at-loop = begun c in
     sum-next plus (shares at-loop) (at-loop .loop .i) (at-loop .loop .inv .1)
     (rw (toZ-ofZ {w = w64} (record { sfits = c .before .plus-arg .given })) at (c .plus .ensures))
 
 minus-next : (c : tie.After-minus Inv-loop μ-loop)
-    → let at-loop = c .before .before .before .before .before in
+    → let at-loop = begun (c .before .before) in
     at-loop .loop .below + c .minus .result ≡ partSum minus (shares at-loop) (at-loop .loop .i + 1)
 minus-next c =
-    let at-loop = c .before .before .before .before .before in
+    let at-loop = begun (c .before .before) in
     sum-next minus (shares at-loop) (at-loop .loop .i) (at-loop .loop .inv .2)
     (rw (toZ-ofZ {w = w64} (record { sfits = c .before .minus-arg .given })) at (c .minus .ensures))
 
@@ -51,12 +55,12 @@ loop-holds c = (search needs, refl, refl)
 
 add-above : tie.Need-add-above Inv-loop μ-loop
 add-above c =
-    let at-loop = c .before .before .before in
+    let at-loop = begun c in
     omega (arith, plus-next c, within at-loop plus (at-loop .loop .i + 1) plus-size (omega arith))
 
 add-below : tie.Need-add-below Inv-loop μ-loop
 add-below c =
-    let at-loop = c .before .before .before .before .before in
+    let at-loop = begun (c .before .before) in
     omega (arith, minus-next c, within at-loop minus (at-loop .loop .i + 1) minus-size (omega arith))
 
 loop-again : tie.Need-loop-again Inv-loop μ-loop

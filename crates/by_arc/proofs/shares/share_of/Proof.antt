@@ -23,21 +23,28 @@ loop-holds c =
     let pre = c .before .before .before .pre in
     (pre .0, pre .1 .0, climbing-start _ _ _ _ (pre .0) (pre .1 .0) (pre .1 .1))
 
+-- where the turn's unit is known, and the turn's start
+abbrev Given : Type 0
+Given = tie.After-one-if-below Inv-loop μ-loop
+
+abbrev begun : Given → tie.At-loop Inv-loop μ-loop
+begun c = c .before .before .before
+
 -- the unit that the turn's arc gives
-unit : (c : tie.After-one-if-below Inv-loop μ-loop)
-    → let at = c .before .before .before .loop in
+unit : (c : Given)
+    → let at = begun c .loop in
     c .one-if-below .result ≡ min (getD (at .more) (at .k - 1) 0) 1
 unit c =
-    let at = c .before .before .before .loop in
+    let at = begun c .loop in
     omega (arith, c .one-if-below .ensures .0, unit-left 0 (getD (at .more) (at .k - 1) 0))
 
 -- there is room for the turn's part
-room : (c : tie.After-one-if-below Inv-loop μ-loop)
-    → let at = c .before .before .before in
+room : (c : Given)
+    → let at = begun c in
     let start = at .before .before .before .before in
     at .loop .share + getD (now (start .args .each)) (at .loop .k - 1) 0 ≤ 1024000000000
 room c =
-    let at = c .before .before .before .loop in
+    let at = begun c .loop in
     climbing-small _ _ _ _ (at .inv .0) (at .inv .1) (at .inv .2) (at .k - 1) (omega arith)
 
 add-share : tie.Need-add-share Inv-loop μ-loop
@@ -51,19 +58,20 @@ sub-more c = omega (arith, unit (c .before))
 
 cast-k : tie.Need-cast-k Inv-loop μ-loop
 cast-k c =
-    let at = c .before .before .before .before .before .loop in
+    let at = begun (c .before .before) .loop in
     omega (arith, c .shared-slice-known4 .given (at .k - 1))
 
 loop-less : tie.Need-loop-less Inv-loop μ-loop
 loop-less c =
-    let at = c .before .before .before .before .before .loop in
+    let at = begun (c .before .before) .loop in
     omega (arith, at .inv .0 .rising (at .k - 1))
 
 loop-again : tie.Need-loop-again Inv-loop μ-loop
 loop-again c =
-    let at = c .before .before .before .before .before .loop in
+    let given = c .before .before in
+    let at = begun given .loop in
     let inv = at .inv in
-    let one = unit (c .before .before) in (
+    let one = unit given in (
       inv .0,
       inv .1,
       climbing-on _ _ _ _ (inv .0) (inv .1) (inv .2) (at .k - 1) (omega arith) _ _ (omega (arith, one))

@@ -19,16 +19,20 @@ abbrev μ-loop : tie.MeasureT-loop
 loop-holds : tie.Need-loop-holds Inv-loop μ-loop
 loop-holds c = (search needs, refl)
 
+-- the turn's start, from where its cap was looked at
+abbrev begun : tie.After-check-cap Inv-loop μ-loop → tie.At-loop Inv-loop μ-loop
+begun c = c .before .before .before
+
 returns : tie.Need-returns Inv-loop μ-loop
 returns c =
     let checked = c .before .before in
-    let inv = checked .before .before .before .loop .inv in
+    let inv = begun checked .loop .inv in
     range-stop outsideCap 0 _ _ _ (omega arith) (checked .check-cap .ensures) (inv .1) (c .enum-told2 .given .1)
 
 loop-again : tie.Need-loop-again Inv-loop μ-loop
 loop-again c =
     let checked = c .before .before in
-    let inv = checked .before .before .before .loop .inv in (
+    let inv = begun checked .loop .inv in (
       omega arith,
       range-on outsideCap 0 _ _ _ (omega arith) (checked .check-cap .ensures) (inv .1) (c .enum-told .given .1),
     )

@@ -25,9 +25,13 @@ abbrev μ-loop : tie.MeasureT-loop
 loop-holds : tie.Need-loop-holds Inv-loop μ-loop
 loop-holds c = (search needs, refl)
 
+-- the turn's start, from where its share was looked at
+abbrev begun : tie.After-check-share Inv-loop μ-loop → tie.At-loop Inv-loop μ-loop
+begun c = c .before .before .before
+
 -- what is found at place i
 here : (c : tie.After-check-share Inv-loop μ-loop)
-    → let at = c .before .before .before in
+    → let at = begun c in
     checkOf (c .check-share .result)
     ≡ fault (outsideShare (share (at .before .args .proposal .now) (at .loop .i))) 7 (at .loop .i)
 here c = rw (toZ-ofZ {w = w64} (record { sfits = c .before .check-share-arg .given })) at (c .check-share .ensures)
@@ -35,13 +39,13 @@ here c = rw (toZ-ofZ {w = w64} (record { sfits = c .before .check-share-arg .giv
 returns : tie.Need-returns Inv-loop μ-loop
 returns c =
     let checked = c .before .before in
-    let inv = checked .before .before .before .loop .inv in
+    let inv = begun checked .loop .inv in
     range-stop outsideShare (pos 0) _ _ _ (omega arith) (here checked) (inv .1) (c .enum-told2 .given .1)
 
 loop-again : tie.Need-loop-again Inv-loop μ-loop
 loop-again c =
     let checked = c .before .before in
-    let inv = checked .before .before .before .loop .inv in
+    let inv = begun checked .loop .inv in
     (omega arith, range-on outsideShare (pos 0) _ _ _ (omega arith) (here checked) (inv .1) (c .enum-told .given .1))
 
 returns-2 : tie.Need-returns-2 Inv-loop μ-loop

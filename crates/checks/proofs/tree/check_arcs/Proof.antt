@@ -21,10 +21,14 @@ abbrev μ-loop : tie.MeasureT-loop
 loop-holds : tie.Need-loop-holds Inv-loop μ-loop
 loop-holds c = (search needs, search needs, refl)
 
+-- the turn's start, from where its arc was looked at
+abbrev begun : tie.After-check-arc Inv-loop μ-loop → tie.At-loop Inv-loop μ-loop
+begun c = c .before .before .before .before
+
 returns : tie.Need-returns Inv-loop μ-loop
 returns c =
     let checked = c .before .before in
-    let inv = checked .before .before .before .before .loop .inv in
+    let inv = begun checked .loop .inv in
     arcs-stop _ _ _ _ (omega arith) (omega arith) (checked .check-arc .ensures) (inv .2) (c .enum-told2 .given .1)
 
 loop-less : tie.Need-loop-less Inv-loop μ-loop
@@ -33,7 +37,7 @@ loop-less c = omega arith
 loop-again : tie.Need-loop-again Inv-loop μ-loop
 loop-again c =
     let checked = c .before .before in
-    let inv = checked .before .before .before .before .loop .inv in (
+    let inv = begun checked .loop .inv in (
       omega arith,
       inv .1,
       arcs-on _ _ _ _ (omega arith) (omega arith) (checked .check-arc .ensures) (inv .2) (c .enum-told .given .1),

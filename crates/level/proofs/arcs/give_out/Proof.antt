@@ -80,8 +80,9 @@ split-arc-requires : tie.Need-split-arc-requires Inv-loop μ-loop
 split-arc-requires c κs =
     let at = turn c .before .loop in
     let ready = at .inv .0 in
-    lists-numbers _ (at .k) _ (part-lists (ready .laid) (at .k) (omega arith) (at .inv .1)) _ _ (ready .capped .sized)
-    (few ready) (at .inv .2 ∙ sym (ready .capped .sized))
+    let lists = part-lists (ready .laid) (at .k) (omega arith) (at .inv .1) in
+    let sized = ready .capped .sized in
+    lists-numbers _ (at .k) _ lists _ _ sized (few ready) (at .inv .2 ∙ sym sized)
 
 loop-again : tie.Need-loop-again Inv-loop μ-loop
 loop-again c =
@@ -89,15 +90,17 @@ loop-again c =
     let split = called .split-arc in
     let at = turn (called .before) .before .loop in
     let ready = at .inv .0 in
-    let last = at .inv .3 in (
+    let ok = ready .accepted in
+    let enough = ready .enough in
+    let capped = ready .capped in
+    let last = at .inv .3 in
+    let lists = part-lists (ready .laid) (at .k) (omega arith) (at .inv .1) in
+    let room = splitting-room _ _ ok enough (at .k) (at .k - 1) (at .inv .1) (omega arith) last (capped .limited) in (
       ready,
       omega (arith, at .inv .1),
       split .kept .1 .1 .0 ∙ at .inv .2,
-      splitting-on _ _ (ready .accepted) (ready .enough) (at .k) (at .k - 1) (at .inv .1) (omega arith) last
-          (split .ensures .is _ (at .k) (part-lists (ready .laid) (at .k) (omega arith) (at .inv .1))
-          (ready .capped .sized) (few ready)
-          (splitting-room _ _ (ready .accepted) (ready .enough) (at .k) (at .k - 1) (at .inv .1) (omega arith) last
-          (ready .capped .limited))),
+      splitting-on _ _ ok enough (at .k) (at .k - 1) (at .inv .1) (omega arith) last
+          (split .ensures .is _ (at .k) lists (capped .sized) (few ready) room),
     )
 
 returns : tie.Need-returns Inv-loop μ-loop

@@ -44,9 +44,9 @@ words s = s .args .t3
 
 loop-holds : tie.Need-loop-holds Inv-loop μ-loop
 loop-holds c =
-    let start = c .before .before in
-    let ok = tree-accepted _ (start .pre .0) in
-    (ok, omega arith, omega arith, costing-start _ (words start) ok (omega arith) (start .pre .1))
+    let s = c .before .before in
+    let ok = tree-accepted _ (s .pre .0) in
+    (ok, omega arith, omega arith, costing-start _ (words s) ok (omega arith) (s .pre .1))
 
 parent-here : (c : Turn) → getD (tree (start c) .parents) (c .before .loop .k - 1 - 1) 0 < 1024
 parent-here c =
@@ -80,12 +80,12 @@ here-used c =
     let turn = c .before .before .before in
     let at = turn .before .loop in
     let i = at .k - 1 - 1 in
+    let chosen = c .before .bit-of .ensures in
+    let one = c .before .before .one-if-member .ensures in
     c .used-here .ensures
-    ∙ ap (cond (getD (at .has-child) (at .k - 1) false) (getD (at .used) (at .k - 1) false))
-    (c .before .bit-of .ensures)
+    ∙ ap (cond (getD (at .has-child) (at .k - 1) false) (getD (at .used) (at .k - 1) false)) chosen
     ∙ costing-used _ (words (start turn)) (at .inv .0) _ i (omega arith) (omega arith) (at .inv .3) _
-    (costing-number _ _ (at .inv .0) _ i (omega arith) (omega arith) (at .inv .3) _
-    (c .before .before .one-if-member .ensures))
+    (costing-number _ _ (at .inv .0) _ i (omega arith) (omega arith) (at .inv .3) _ one)
 
 add-cost : tie.Need-add-cost Inv-loop μ-loop
 add-cost c =
@@ -117,13 +117,13 @@ loop-again : tie.Need-loop-again Inv-loop μ-loop
 loop-again c =
     let at = turn (c .before) .before .loop in
     let costed = c .before .before in
-    let used = costed .before .before in (
+    let used = costed .before .before in
+    let one = used .before .before .one-if-member .ensures in (
       at .inv .0,
       omega arith,
       omega arith,
       costing-on _ _ (at .inv .0) _ (at .k - 1 - 1) (omega arith) (omega arith) (at .inv .3)
-          (used .before .before .one-if-member .ensures) (here-used used) (costed .cost-if .ensures)
-          (c .either .ensures),
+          one (here-used used) (costed .cost-if .ensures) (c .either .ensures),
     )
 
 returns : tie.Need-returns Inv-loop μ-loop

@@ -31,21 +31,21 @@ place-member-requires c κs =
     (at .inv .4 .fits, listing-room _ (at .inv .0) _ (at .k - 1 - 1) (omega arith) (omega arith) (at .inv .4))
 
 -- the turn's start, from where its vertex is placed
-abbrev turn : tie.After-slice-known2 Inv-loop μ-loop → tie.At-loop Inv-loop μ-loop
-turn c = c .before .before .before .before .before
+abbrev begun : tie.After-slice-known2 Inv-loop μ-loop → tie.At-loop Inv-loop μ-loop
+begun c = c .before .before .before .before .before
 
 mul-has-child : tie.Need-mul-has-child Inv-loop μ-loop
-mul-has-child c = omega (arith, turn c .loop .inv .0 .few)
+mul-has-child c = omega (arith, begun c .loop .inv .0 .few)
 
 shared-slice-read-has-child : tie.Need-shared-slice-read-has-child Inv-loop μ-loop
 shared-slice-read-has-child c = omega arith
 
 cast-has-child : tie.Need-cast-has-child Inv-loop μ-loop
-cast-has-child c = omega (arith, c .shared-slice-known2 .given (turn (c .before) .loop .k - 1 - 1))
+cast-has-child c = omega (arith, c .shared-slice-known2 .given (begun (c .before) .loop .k - 1 - 1))
 
 array-write-has-child : tie.Need-array-write-has-child Inv-loop μ-loop
 array-write-has-child c =
-    let at = turn (c .before) .loop in
+    let at = begun (c .before) .loop in
     omega (arith, at .inv .0 .few, at .inv .0 .rising (at .k - 1 - 1))
 
 loop-less : tie.Need-loop-less Inv-loop μ-loop
@@ -53,7 +53,7 @@ loop-less c = omega arith
 
 loop-again : tie.Need-loop-again Inv-loop μ-loop
 loop-again c =
-    let at = turn (c .before) .loop in
+    let at = begun (c .before) .loop in
     let put = c .before .before .before .place-member in (
       at .inv .0,
       omega arith,
