@@ -1,5 +1,5 @@
 -- Demand 2 of the by-arc split.
-use Prim.Native.Nat.{ℕ, suc, pred, _≤_, _<_}
+use Prim.Native.Nat.{ℕ, _≤_, _<_}
 use mathlib.Core.Path.{_≡_, ap, _∙_}
 use mathlib.Core.List.{List, map}
 use native.Mathlib.Omega.{arith}
@@ -11,7 +11,7 @@ use Rattle.game.specs.Tree.{Tree, network}
 use Rattle.game.specs.Core.{Core}
 use Rattle.game.specs.ByArc.{userCount, gift, byArc}
 use Rattle.game.specs.Shapley.{Even}
-use Rattle.basics.proofs.Sums.{In, sum-mono, term-le}
+use Rattle.basics.proofs.Sums.{In, sum-mono, term₀-le}
 use Rattle.game.proofs.DeadEnds.{tree-ends, every-arc-used}
 use Rattle.game.proofs.Core.{need-to-core}
 use Rattle.game.proofs.Shapley.{shapley-by-arcs, whole-part}
@@ -65,7 +65,7 @@ module _ (t : Tree) (out : List ℕ) (ok : membersCheck t out ≡ accepted) wher
         arith,
         by-arc-at (network t) j h,
         sum-mono (network t .arcs) {f = λ k. gift (network t) k j} {g = network t .cost}
-            (λ k i. omega (arith, gifts k i .all, term-le (memberCount (network t)) (suc j) (λ v. gift (network t) k (pred v)) (omega arith))),
+            (λ k i. omega (arith, gifts k i .all, term₀-le (memberCount (network t)) j (gift (network t) k) h)),
         whole-bound t acc,
       )
 

@@ -3,7 +3,7 @@ use mathlib.Core.Path.{refl}
 use Rattle.game.specs.Network.{climb, used, groupCost, sumBelow, wholeCost, membersTo}
 use Rattle.game.specs.Tree.{hasChild}
 use Rattle.basics.specs.Bit.{bit}
-use Rattle.basics.specs.Sum.{size}
+use Rattle.basics.specs.Sum.{size, entries}
 use Rattle.game.specs.Group.{wordsOf}
 use Rattle.game.specs.Proposal.{pays}
 use Rattle.game.specs.Search.{groups, best, named}
@@ -19,7 +19,7 @@ use Rattle.answers.specs.ByArc.{byArcAnswer, byArcList}
 use Rattle.answers.specs.Table.{Table}
 
 pub table : Table
-unfolding climb used groupCost sumBelow wholeCost membersTo hasChild bit size wordsOf pays groups best named arcsCheck treeCheck bitsCheck rangeCheck memberCountAnswer membersAnswer membersList needsAnswer needsList groupCostAnswer verdict auditAnswer auditWords firstLeast units arcsDown shortArc levelAnswer levelList giveArc byArcDown byArcAnswer byArcList
+unfolding climb used groupCost sumBelow wholeCost membersTo hasChild bit size entries wordsOf pays groups best named arcsCheck treeCheck bitsCheck rangeCheck memberCountAnswer membersAnswer membersList needsAnswer needsList groupCostAnswer verdict auditAnswer auditWords firstLeast units arcsDown shortArc levelAnswer levelList giveArc byArcDown byArcAnswer byArcList
 table =
     record {
       T-members = refl;

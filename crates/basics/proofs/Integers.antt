@@ -1,5 +1,5 @@
 -- Whole numbers by their parts: `Less x a b` says that x is a less b, and turns sums, orders and equations of whole numbers into such of ℕ.
-use Prim.Native.Nat.{ℕ, zero, suc, pred, _+_, _≤_, _<_}
+use Prim.Native.Nat.{ℕ, zero, suc, _+_, _≤_, _<_}
 use mathlib.Core.Path.{_≡_, refl, sym, ap, ap₂, subst}
 use mathlib.Core.Bool.{Bool, true, false, not, false≢true}
 use mathlib.Core.Logic.{⊎-elim}
@@ -8,7 +8,7 @@ use borrow.Author.Tests.{ltb-true, ltb-false}
 use lib.Dec.{T, ltb, leb→le, le→leb}
 use lib.IntN.{ℤ, pos, negsuc, subℕ, negℤ, _+ℤ_, _-ℤ_}
 use lib.Signed.{_≤ℤ_, leZ, ltZ, ltZ-no}
-use Rattle.basics.specs.Sum.{pick, sum}
+use Rattle.basics.specs.Sum.{pick, sum₀}
 use Rattle.basics.specs.Integer.{plus, minus, sumℤ, pickℤ}
 use Rattle.basics.proofs.Bools.{both}
 
@@ -125,7 +125,8 @@ minus-pick false x = refl
 
 -- a sum of shares under a test: that of the positive parts less that of the negative ones
 pub less-sum : (n : ℕ) (g : ℕ → Bool) (f : ℕ → ℤ)
-    → Less (sumℤ n (λ j. pickℤ (g j) (f j))) (sum n (λ i. pick (g (pred i)) (plus (f (pred i))))) (sum n (λ i. pick (g (pred i)) (minus (f (pred i)))))
+    → Less (sumℤ n (λ j. pickℤ (g j) (f j)))
+    (sum₀ n (λ j. pick (g j) (plus (f j)))) (sum₀ n (λ j. pick (g j) (minus (f j))))
 less-sum zero g f = record { is = refl }
 less-sum (suc n) g f =
     omega (
@@ -136,6 +137,6 @@ less-sum (suc n) g f =
     )
 
 -- a sum of numbers none of which is negative
-pub sum-pos-ℤ : (m : ℕ) (f : ℕ → ℤ) (x : ℕ → ℕ) → ((j : ℕ) → j < m → f j ≡ pos (x j)) → sumℤ m f ≡ pos (sum m (λ i. x (pred i)))
+pub sum-pos-ℤ : (m : ℕ) (f : ℕ → ℤ) (x : ℕ → ℕ) → ((j : ℕ) → j < m → f j ≡ pos (x j)) → sumℤ m f ≡ pos (sum₀ m x)
 sum-pos-ℤ zero f x h = refl
 sum-pos-ℤ (suc m) f x h = ap₂ (λ (a b : ℤ). a +ℤ b) (sum-pos-ℤ m f x (λ j l. h j (omega arith))) (h m (omega arith))

@@ -1,4 +1,4 @@
--- The list f 1, f 2, .., f m by its length and its entries, and as the front of a list; the front of an array of zeros.
+-- A list from 0 or from 1 by its length and its entries, and as the front of a list; the front of an array of zeros.
 use Prim.Native.Nat.{ℕ, zero, suc, _-_, _<_, _≤_}
 use mathlib.Core.Path.{_≡_, refl, sym, ap, _∙_}
 use mathlib.Core.List.{List, [], _∷_, _++_}
@@ -7,36 +7,56 @@ use native.Mathlib.Nat.{sub-zero}
 use native.Mathlib.Omega.{arith}
 use lib.ListN.{length, getD, take, replicate, length-append, length-take, length-replicate, List·getD-append}
 use lib.Seq.{getD-at, take-at, ext-getD}
-use Rattle.basics.specs.Sum.{list}
+use Rattle.basics.specs.Sum.{list, entries}
 
 module _ {A : Type 0} (f : ℕ → A) where
-  pub list-length : (m : ℕ) → length (list m f) ≡ m
-  list-length zero = refl
-  list-length (suc m) = omega (arith, length-append (list m f) (f (suc m) ∷ []), list-length m)
+  pub entries-length : (n : ℕ) → length (entries n f) ≡ n
+  unfolding entries
+  entries-length zero = refl
+  entries-length (suc n) = omega (arith, length-append (entries n f) (f n ∷ []), entries-length n)
 
-  -- the front of a list that starts with f's, and as the part [0..m] that code takes
-  pub list-front : (m : ℕ) (rest : List A) → take m (list m f ++ rest) ≡ list m f
-  list-front m rest = take-at (list m f) rest m (list-length m)
+  -- the front of a list that starts with f's, and as the part [0..n] that code takes
+  pub entries-front : (n : ℕ) (rest : List A) → take n (entries n f ++ rest) ≡ entries n f
+  entries-front n rest = take-at (entries n f) rest n (entries-length n)
 
-  pub list-part : (m : ℕ) (rest : List A) {l : List A} → l ≡ list m f ++ rest → take (m - 0) l ≡ list m f
-  list-part m rest e = rw (sub-zero, e) (list-front m rest)
+  pub entries-part : (n : ℕ) (rest : List A) {l : List A} → l ≡ entries n f ++ rest → take (n - 0) l ≡ entries n f
+  entries-part n rest e = rw (sub-zero, e) (entries-front n rest)
 
   module _ (d : A) where
-    pub list-at : (m i : ℕ) → i < m → getD (list m f) i d ≡ f (suc i)
-    list-at zero i h = absurd (omega arith)
-    list-at (suc m) i h =
-        elim (decLt i m) [
-          | yes l ↦ List·getD-append (list m f) (f (suc m) ∷ []) d i (omega (arith, list-length m)) ∙ list-at m i l
+    pub entries-at : (n i : ℕ) → i < n → getD (entries n f) i d ≡ f i
+    unfolding entries
+    entries-at zero i h = absurd (omega arith)
+    entries-at (suc n) i h =
+        elim (decLt i n) [
+          | yes l ↦ List·getD-append (entries n f) (f n ∷ []) d i (omega (arith, entries-length n)) ∙ entries-at n i l
           | no l ↦ last (omega arith)
         ]
       where
-        last : i ≡ m → getD (list m f ++ (f (suc m) ∷ [])) i d ≡ f (suc i)
-        last e = getD-at (list m f) (f (suc m)) [] d i (list-length m ∙ sym e) ∙ ap (λ (k : ℕ). f (suc k)) (sym e)
+        last : i ≡ n → getD (entries n f ++ (f n ∷ [])) i d ≡ f i
+        last e = getD-at (entries n f) (f n) [] d i (entries-length n ∙ sym e) ∙ ap f (sym e)
 
     -- a list that has f's values at all its places is f's list
+    pub entries-are : (n : ℕ) (l : List A) → length l ≡ n → ((i : ℕ) → i < n → getD l i d ≡ f i) → l ≡ entries n f
+    entries-are n l e h =
+        ext-getD d l (entries n f) (e ∙ sym (entries-length n))
+        (λ i b. h i (omega arith) ∙ sym (entries-at n i (omega arith)))
+
+module _ {A : Type 0} (f : ℕ → A) where
+  -- a list from 1 as one from 0, with the same laws
+  from-one : (m : ℕ) → list m f ≡ entries m (λ i. f (suc i))
+  unfolding entries
+  from-one zero = refl
+  from-one (suc m) = ap (λ (l : List A). l ++ (f (suc m) ∷ [])) (from-one m)
+
+  pub list-length : (m : ℕ) → length (list m f) ≡ m
+  list-length m = rw (from-one m) (entries-length (λ i. f (suc i)) m)
+
+  module _ (d : A) where
+    pub list-at : (m i : ℕ) → i < m → getD (list m f) i d ≡ f (suc i)
+    list-at m i h = rw (from-one m) (entries-at (λ i. f (suc i)) d m i h)
+
     pub list-is : (m : ℕ) (l : List A) → length l ≡ m → ((i : ℕ) → i < m → getD l i d ≡ f (suc i)) → l ≡ list m f
-    list-is m l e h =
-        ext-getD d l (list m f) (e ∙ sym (list-length m)) (λ i b. h i (omega arith) ∙ sym (list-at m i (omega arith)))
+    list-is m l e h = rw (from-one m) (entries-are (λ i. f (suc i)) d m l e h)
 
 -- the front of an array of zeros, lent as a list
 pub zeros-length : (size m : ℕ) → m ≤ size → length {A = ℕ} (take (m - 0) (replicate size 0)) ≡ m

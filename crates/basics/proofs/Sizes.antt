@@ -1,5 +1,6 @@
--- The size of a group: one number more, at most the range, a range in two parts, from the first number on, equal by points.
-use Prim.Native.Nat.{ℕ, zero, suc, pred, _+_, _<_, _≤_}
+-- The size of a group: one number more, at most the range, an amount for each member, a range in two parts, from the
+-- first number on, equal by points.
+use Prim.Native.Nat.{ℕ, zero, suc, pred, _+_, _*_, _<_, _≤_}
 use mathlib.Core.Path.{_≡_, refl, sym, ap, ap₂, _∙_}
 use mathlib.Core.Bool.{Bool, true, false}
 use native.Mathlib.Nat.{add-zero, add-suc}
@@ -7,9 +8,9 @@ use mathlib.Core.Logic.{⊎-elim}
 use native.Mathlib.Decide.{decLt}
 use native.Mathlib.Numerals.{one-add}
 use native.Mathlib.Omega.{arith}
-use Rattle.basics.specs.Sum.{pick, size}
+use Rattle.basics.specs.Sum.{pick, sum₀, size}
 use Rattle.basics.proofs.Bools.{both, pick-mono, pick-yes, pick-no}
-use Rattle.basics.proofs.Sums.{count-le}
+use Rattle.basics.proofs.Sums.{sum-count, count-le, sum₀-is}
 
 pub size-more : (n : ℕ) (g : ℕ → Bool) → size (suc n) g ≡ size n g + pick (g n) 1
 unfolding size
@@ -17,7 +18,12 @@ size-more n g = refl
 
 pub size-le : (n : ℕ) (g : ℕ → Bool) → size n g ≤ n
 unfolding size
-size-le n g = count-le n (λ i. g (pred i))
+size-le n g = simp sum₀-is (count-le n (λ k. g (pred k)))
+
+-- one amount for each member of the group
+pub size-times : (n x : ℕ) (g : ℕ → Bool) → sum₀ n (λ i. pick (g i) x) ≡ x * size n g
+unfolding size
+size-times n x g = simp sum₀-is (sum-count n x (λ k. g (pred k)))
 
 pub size-split : (n m : ℕ) (g : ℕ → Bool) → size (n + m) g ≡ size n g + size m (λ i. g (n + i))
 unfolding size

@@ -1,5 +1,5 @@
--- Laws of sums and tests over 1 to m.
-use Prim.Native.Nat.{ℕ, zero, suc, _+_, _*_, _≤_, _<_, zero-le}
+-- Laws of sums and tests over 1 to m, and of sums over the numbers below n.
+use Prim.Native.Nat.{ℕ, zero, suc, pred, _+_, _*_, _≤_, _<_, zero-le}
 use mathlib.Core.Path.{_≡_, refl, sym, ap, ap₂, _∙_}
 use mathlib.Core.Bool.{Bool, true, false, not, _||_, false≢true}
 use mathlib.Core.Logic.{⊎-elim}
@@ -7,8 +7,8 @@ use native.Mathlib.Nat.{le-refl, mul-zero, mul-one, suc-mul}
 use native.Mathlib.Decide.{decLe, decLt}
 use native.Mathlib.Omega.{arith}
 use borrow.Author.Tests.{eq-eqb, ne-eqb, lt-ltb}
-use lib.Dec.{eqb, ltb}
-use Rattle.basics.specs.Sum.{pick, sum, count, some}
+use lib.Dec.{eqb, ltb, eqb·suc-suc}
+use Rattle.basics.specs.Sum.{pick, sum, count, some, sum₀}
 use Rattle.basics.proofs.Bools.{pick-zero, pick-add, pick-parts, pick-yes, pick-no, pick-le, or-first, or-second, or-cases}
 
 -- k is one of 1 to m
@@ -147,3 +147,39 @@ sum-more-some (suc m) f g h =
       | yes l ↦ record { which = suc m; within = in-last m; passes = lt-ltb (f (suc m)) (g (suc m)) l }
       | no l ↦ some-more m (sum-more-some m f g (omega arith))
     ]
+
+-- a sum from 0 as one from 1, with the same laws
+pub sum₀-is : (n : ℕ) (f : ℕ → ℕ) → sum₀ n f ≡ sum n (λ k. f (pred k))
+sum₀-is zero f = refl
+sum₀-is (suc n) f = ap (λ (s : ℕ). s + f n) (sum₀-is n f)
+
+pub sum₀-cong : (n : ℕ) {f g : ℕ → ℕ} → ((i : ℕ) → i < n → f i ≡ g i) → sum₀ n f ≡ sum₀ n g
+sum₀-cong n h = simp sum₀-is (sum-cong n (λ k i. h (pred k) (omega arith)))
+
+pub sum₀-mono : (n : ℕ) {f g : ℕ → ℕ} → ((i : ℕ) → i < n → f i ≤ g i) → sum₀ n f ≤ sum₀ n g
+sum₀-mono n h = simp sum₀-is (sum-mono n (λ k i. h (pred k) (omega arith)))
+
+pub sum₀-add : (n : ℕ) (f g : ℕ → ℕ) → sum₀ n (λ i. f i + g i) ≡ sum₀ n f + sum₀ n g
+sum₀-add n f g = simp sum₀-is (sum-add n (λ k. f (pred k)) (λ k. g (pred k)))
+
+pub sum₀-zero : (n : ℕ) {f : ℕ → ℕ} → ((i : ℕ) → i < n → f i ≡ 0) → sum₀ n f ≡ 0
+sum₀-zero n h = simp sum₀-is (sum-zero n (λ k i. h (pred k) (omega arith)))
+
+pub sum₀-swap : (n m : ℕ) (f : ℕ → ℕ → ℕ) → sum₀ n (λ i. sum m (λ k. f i k)) ≡ sum m (λ k. sum₀ n (λ i. f i k))
+sum₀-swap n m f = simp sum₀-is (sum-swap n m (λ i k. f (pred i) k))
+
+pub sum₀-at : (n j : ℕ) (f : ℕ → ℕ) → j < n → sum₀ n (λ i. pick (eqb j i) (f i)) ≡ f j
+sum₀-at n j f h =
+    simp sum₀-is
+    (sum-cong n (λ k i. ap (λ (b : Bool). pick b (f (pred k))) (next k (i .low)))
+    ∙ sum-at n (suc j) (λ k. f (pred k)) (omega arith))
+  where
+    next : (k : ℕ) → 0 < k → eqb j (pred k) ≡ eqb (suc j) k
+    next zero p = absurd (omega arith)
+    next (suc i) p = sym (eqb·suc-suc j i)
+
+pub term₀-le : (n j : ℕ) (f : ℕ → ℕ) → j < n → f j ≤ sum₀ n f
+term₀-le n j f h = simp sum₀-is (term-le n (suc j) (λ k. f (pred k)) (omega arith))
+
+pub sum₀-bound : (n b : ℕ) {f : ℕ → ℕ} → ((i : ℕ) → i < n → f i ≤ b) → sum₀ n f ≤ n * b
+sum₀-bound n b h = simp sum₀-is (sum-bound n b (λ k i. h (pred k) (omega arith)))

@@ -1,5 +1,5 @@
--- Finite sums and tests over the numbers 1 to m.
-use Prim.Native.Nat.{ℕ, zero, suc, pred, _+_}
+-- Finite sums, tests and lists over the numbers 1 to m, and over the numbers below n.
+use Prim.Native.Nat.{ℕ, zero, suc, _+_}
 use mathlib.Core.Bool.{Bool, true, false, cond, _||_}
 use mathlib.Core.List.{List, [], _∷_, _++_}
 use lib.Dec.{ltb}
@@ -28,9 +28,19 @@ abbrev pub list : {A : Type 0} → ℕ → (ℕ → A) → List A
 list zero f = []
 list (suc m) f = list m f ++ (f (suc m) ∷ [])
 
+-- f 0 + f 1 + .. + f (n - 1)
+abbrev pub sum₀ : ℕ → (ℕ → ℕ) → ℕ
+sum₀ zero f = 0
+sum₀ (suc n) f = sum₀ n f + f n
+
 -- how many of the numbers below n pass the test
 unfoldable pub size : ℕ → (ℕ → Bool) → ℕ
-size n g = count n (λ i. g (pred i))
+size n g = sum₀ n (λ i. pick (g i) 1)
+
+-- the list f 0, f 1, .., f (n - 1)
+unfoldable pub entries : {A : Type 0} → ℕ → (ℕ → A) → List A
+entries zero f = []
+entries (suc n) f = entries n f ++ (f n ∷ [])
 
 abbrev pub smaller : ℕ → ℕ → ℕ
 smaller a b = cond (ltb a b) a b

@@ -14,7 +14,7 @@ use lib.Seq.{getD-set-same, getD-set-other}
 use Rattle.basics.specs.Bit.{digit, bit}
 use Rattle.game.specs.Group.{wordsOf}
 use Rattle.basics.proofs.Bools.{same-test}
-use Rattle.game.proofs.Encoding.{digit-half}
+use Rattle.game.proofs.Encoding.{digit-half, words-length}
 
 either : (p q : ℕ) → p < 2 → q < 2 → eqb (max p q) 1 ≡ (eqb p 1 || eqb q 1)
 either zero q h l = ap (λ (x : ℕ). eqb x 1) (zero-max q)
@@ -44,10 +44,12 @@ set-digit w i k = or-digit w (2 ^ i) k ∙ ap (λ b. digit w k || b) (power-digi
 pub bit-set : (words : List ℕ) (w i j : ℕ) → words ≡ wordsOf (bit words) → j < 1024
     → ((k : ℕ) → digit w k ≡ (digit (getD words (j / 64) 0) k || eqb k (j % 64)))
     → bit (set words (j / 64) w) i ≡ (bit words i || eqb i j)
-unfolding bit wordsOf
+unfolding bit
 bit-set words w i j g h d =
     elim (ℕ-discrete (i / 64) (j / 64)) [
-      | yes e ↦ rw (e, getD-set-same words (j / 64) w 0 (omega (arith, ap length g)), d (i % 64)) (ap (λ b. digit (getD words (j / 64) 0) (i % 64) || b) (same-place e))
+      | yes e ↦
+          rw (e, getD-set-same words (j / 64) w 0 (omega (arith, ap length g, words-length (bit words))), d (i % 64))
+          (ap (λ b. digit (getD words (j / 64) 0) (i % 64) || b) (same-place e))
       | no n ↦ rw (getD-set-other words (j / 64) (i / 64) w 0 n, ne-eqb i j (λ e. n (ap (λ (x : ℕ). x / 64) e)), or-false)
     ]
   where

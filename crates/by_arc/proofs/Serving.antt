@@ -1,19 +1,19 @@
 -- The members served one after the other: each gets what its arcs give, and leaves them one unit less.
-use Prim.Native.Nat.{ℕ, pred, _+_, _-_, _≤_, _<_}
+use Prim.Native.Nat.{ℕ, _+_, _-_, _≤_, _<_}
 use mathlib.Core.Path.{_≡_, refl, ap, _∙_}
 use mathlib.Core.List.{List, []}
 use native.Mathlib.Numerals.{add-one}
 use native.Mathlib.Omega.{arith}
 use lib.ListN.{length, getD, set}
-use Rattle.basics.specs.Sum.{pick, list}
+use Rattle.basics.specs.Sum.{pick, entries}
 use Rattle.game.specs.Network.{Network, atOrBelow, members}
 use Rattle.game.specs.Tree.{networkOf, ofArc}
 use Rattle.game.specs.Core.{users}
 use Rattle.basics.proofs.Sums.{In, sum-cong}
 use Rattle.basics.proofs.Sizes.{size-more, size-none}
-use Rattle.basics.proofs.Lists.{list-length}
+use Rattle.basics.proofs.Lists.{list-length, entries-are}
 use Rattle.game.proofs.ArcEntries.{of-list}
-use Rattle.tree.proofs.Filling.{Filling, filling-start, filling-on, filling-list}
+use Rattle.tree.proofs.Filling.{Filling, filling-start, filling-on}
 use Rattle.by_arc.specs.Parts.{Parts, given, sumAbove, oneLess, left, dealt}
 
 module _ (ps each more₀ shares₀ : List ℕ) where
@@ -59,5 +59,7 @@ module _ (ps each more₀ shares₀ : List ℕ) where
             served = filling-on _ _ (s .served) h share (e ∙ rw own (sum-cong (length ps) (λ k i. ap (λ (x : ℕ). pick (users n k j) (given (ofArc each) (λ u. x) k)) (s .units k i))));
           }
 
-      pub serving-end : length shares₀ ≤ j → shares ≡ list (length shares₀) (λ i. dealt n each more₀ (pred i))
-      serving-end h = filling-list _ _ (s .served) h _ (λ u. refl)
+      pub serving-end : length shares₀ ≤ j → shares ≡ entries (length shares₀) (dealt n each more₀)
+      serving-end h =
+          entries-are (dealt n each more₀) 0 (length shares₀) shares (s .served .kept)
+          (λ u l. s .served .filled u (omega arith))

@@ -1,17 +1,17 @@
 -- The shares dealt from the divided costs are the by-arc split.
-use Prim.Native.Nat.{ℕ, suc, pred, _/_, _%_, _<_}
+use Prim.Native.Nat.{ℕ, suc, _/_, _%_, _<_}
 use mathlib.Core.Path.{_≡_, sym, ap, _∙_}
 use mathlib.Core.List.{List, []}
 use native.Mathlib.Nat.{div-le-self}
 use native.Mathlib.Omega.{arith}
 use lib.ListN.{length, getD}
-use Rattle.basics.specs.Sum.{pick, list, size}
+use Rattle.basics.specs.Sum.{pick, list, size, entries}
 use Rattle.game.specs.Network.{Network, memberCount}
 use Rattle.game.specs.Tree.{Tree, network, networkOf, ofArc}
 use Rattle.game.specs.Core.{users}
 use Rattle.game.specs.ByArc.{userCount, byArc}
 use Rattle.basics.proofs.Sums.{In, sum-cong}
-use Rattle.basics.proofs.Lists.{list-length, list-at, list-is}
+use Rattle.basics.proofs.Lists.{list-length, list-at, entries-are}
 use Rattle.game.proofs.ArcEntries.{of-list}
 use Rattle.game.proofs.ByArc.{by-arc-length, by-arc-at}
 use Rattle.answers.proofs.Accepted.{Accepted}
@@ -48,12 +48,12 @@ module _ (t : Tree) (ok : Accepted t) where
           }
 
       -- the dealing does not look at the costs
-      pub split-is : {m : ℕ} → m ≡ memberCount n → list m (λ i. dealt (networkOf (t .parents) []) each more (pred i)) ≡ byArc n
+      pub split-is : {m : ℕ} → m ≡ memberCount n → entries m (dealt (networkOf (t .parents) []) each more) ≡ byArc n
       unfolding sumAbove
       split-is e =
           rw e
           (sym
-          (list-is (λ i. dealt (networkOf (t .parents) []) each more (pred i)) 0 (memberCount n) (byArc n) (by-arc-length n)
+          (entries-are (dealt (networkOf (t .parents) []) each more) 0 (memberCount n) (byArc n) (by-arc-length n)
           (λ j h.
           by-arc-at n j h
           ∙ sum-cong (n .arcs)

@@ -1,9 +1,9 @@
 // The members' shares, each gathered on the way from the member's vertex to the source.
 ghost use mathlib.Core.Path.{_≡_};
-ghost use Prim.Native.Nat.{_≤_, pred};
+ghost use Prim.Native.Nat.{_≤_};
 ghost use mathlib.Core.List.{[]};
 ghost use lib.ListN.{length};
-ghost use Rattle.basics.specs.Sum.{list};
+ghost use Rattle.basics.specs.Sum.{entries};
 ghost use Rattle.game.specs.Network.{members};
 ghost use Rattle.game.specs.Tree.{networkOf, ofArc};
 ghost use Rattle.tree.specs.Passes.{Sound};
@@ -43,8 +43,9 @@ pub fn write_shares(
     requires { ⌜ now vertices ≡ members (networkOf (now parents) []) ⌝ }
     requires { ⌜ Parts (length (now parents)) (now each) (now more) ⌝ }
     requires { ⌜ length (now shares) ≡ length (now vertices) ⌝ }
-    ensures { λ _. ⌜ now (shares .exit) ≡ list (length (now (shares .entry)))
-        (λ i. dealt (networkOf (now (parents .entry)) []) (now (each .entry)) (now (more .entry)) (pred i)) ⌝ }
+    ensures { λ _. ⌜ now (shares .exit)
+        ≡ entries (length (now (shares .entry)))
+        (dealt (networkOf (now (parents .entry)) []) (now (each .entry)) (now (more .entry))) ⌝ }
 {
     let mut j = 0;
     while j < vertices.len() {

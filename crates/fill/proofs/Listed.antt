@@ -1,17 +1,16 @@
 -- A list of an arc's users has each user's number once and no other number.
-use Prim.Native.Nat.{ℕ, zero, suc, pred, _-_, _≤_, _<_}
-use mathlib.Core.Path.{_≡_, refl, ap, _∙_}
-use mathlib.Core.Bool.{Bool}
+use Prim.Native.Nat.{ℕ, zero, suc, _-_, _≤_, _<_}
+use mathlib.Core.Path.{_≡_, refl, _∙_}
 use mathlib.Core.List.{List, [], _∷_}
 use native.Mathlib.Omega.{arith}
-use borrow.Author.Tests.{eqb-true, eq-eqb}
 use lib.ListN.{length, getD}
 use lib.Dec.{eqb}
-use Rattle.basics.specs.Sum.{pick}
+use Rattle.basics.specs.Sum.{pick, size}
 use Rattle.game.specs.Network.{Network, memberCount}
 use Rattle.game.specs.Core.{users}
-use Rattle.basics.proofs.Bools.{same-test, pick-le, pick-swap}
-use Rattle.basics.proofs.Sums.{sum-cong, sum-zero, sum-at, count-le}
+use Rattle.basics.proofs.Bools.{pick-le, pick-swap}
+use Rattle.basics.proofs.Sums.{sum₀-cong, sum₀-zero, sum₀-at}
+use Rattle.basics.proofs.Sizes.{size-le}
 use Rattle.users.specs.Users.{total, Lists}
 
 total-ones : (us : List ℕ) → total (λ u. 1) us ≡ length us
@@ -25,19 +24,15 @@ total-has g [] i h = absurd (omega arith)
 total-has g (u ∷ us) zero h = omega arith
 total-has g (u ∷ us) (suc i) h = omega (arith, total-has g us i (omega arith))
 
--- term j + 1 of a sum over the members is that of number j
-term-of : (j i : ℕ) → 0 < i → eqb j (pred i) ≡ eqb (suc j) i
-term-of j i p =
-    same-test (eqb j (pred i)) (eqb (suc j) i) (λ e. eq-eqb (suc j) i (omega (arith, eqb-true j (pred i) e))) (λ e. eq-eqb j (pred i) (omega (arith, eqb-true (suc j) i e)))
-
 module _ (n : Network) (k : ℕ) (us : List ℕ) (lists : Lists n k us) where
   pub list-length : length us ≤ memberCount n
+  unfolding size
   list-length =
       omega (
         arith,
         total-ones us,
         lists .sums (λ u. 1),
-        count-le (memberCount n) (λ i. users n k (pred i)),
+        size-le (memberCount n) (users n k),
       )
 
   -- u + 1 less the number of members is 0 for each member, so for each number in the list
@@ -47,14 +42,13 @@ module _ (n : Network) (k : ℕ) (us : List ℕ) (lists : Lists n k us) where
         arith,
         total-has (λ u. suc u - memberCount n) us i h,
         lists .sums (λ u. suc u - memberCount n),
-        sum-zero (memberCount n) {f = λ i. pick (users n k (pred i)) (suc (pred i) - memberCount n)}
-            (λ i m. omega (arith, pick-le (users n k (pred i)) (suc (pred i) - memberCount n), m .low, m .high)),
+        sum₀-zero (memberCount n) {f = λ j. pick (users n k j) (suc j - memberCount n)}
+            (λ j l. omega (arith, pick-le (users n k j) (suc j - memberCount n))),
       )
 
   -- how often number j stands in the list
   pub listed : (j : ℕ) → j < memberCount n → total (λ u. pick (eqb j u) 1) us ≡ pick (users n k j) 1
   listed j h =
       lists .sums (λ u. pick (eqb j u) 1)
-      ∙ sum-cong (memberCount n)
-      (λ i m. pick-swap (users n k (pred i)) (eqb j (pred i)) 1 ∙ ap (λ (b : Bool). pick b (pick (users n k (pred i)) 1)) (term-of j i (m .low)))
-      ∙ sum-at (memberCount n) (suc j) (λ i. pick (users n k (pred i)) 1) (omega arith)
+      ∙ sum₀-cong (memberCount n) (λ i l. pick-swap (users n k i) (eqb j i) 1)
+      ∙ sum₀-at (memberCount n) j (λ i. pick (users n k i) 1) h

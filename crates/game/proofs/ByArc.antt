@@ -1,5 +1,5 @@
 -- The by-arc split's shares, arc by arc.
-use Prim.Native.Nat.{ℕ, zero, suc, pred, _+_, _<_}
+use Prim.Native.Nat.{ℕ, zero, suc, _+_, _<_}
 use mathlib.Core.Path.{_≡_, sym, _∙_}
 use mathlib.Core.Bool.{true}
 use mathlib.Core.List.{List}
@@ -9,7 +9,7 @@ use Rattle.basics.specs.Sum.{sum}
 use Rattle.game.specs.Network.{Network, used, everyone, memberCount}
 use Rattle.game.specs.Core.{users}
 use Rattle.game.specs.ByArc.{userCount, gift, giveArc, byArcDown, byArc}
-use Rattle.basics.proofs.Lists.{list-length, list-at}
+use Rattle.basics.proofs.Lists.{entries-length, entries-at}
 use Rattle.game.proofs.Encoding.{zeros}
 use Rattle.game.proofs.Meets.{used-by-number, shared-by}
 use Rattle.game.proofs.Shapley.{user-count-pos}
@@ -23,11 +23,11 @@ module _ (n : Network) where
 
   give-length : (k : ℕ) (l : List ℕ) → length (giveArc n k l) ≡ memberCount n
   unfolding giveArc
-  give-length k l = list-length (λ i. getD l (pred i) 0 + gift n k (pred i)) (memberCount n)
+  give-length k l = entries-length (λ i. getD l i 0 + gift n k i) (memberCount n)
 
   give-at : (k : ℕ) (l : List ℕ) (j : ℕ) → j < memberCount n → getD (giveArc n k l) j 0 ≡ getD l j 0 + gift n k j
   unfolding giveArc
-  give-at k l j h = list-at (λ i. getD l (pred i) 0 + gift n k (pred i)) 0 (memberCount n) j h
+  give-at k l j h = entries-at (λ i. getD l i 0 + gift n k i) 0 (memberCount n) j h
 
   down-length : (k : ℕ) (l : List ℕ) → length l ≡ memberCount n → length (byArcDown n k l) ≡ memberCount n
   unfolding byArcDown

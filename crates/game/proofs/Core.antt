@@ -1,5 +1,5 @@
 -- The core theorem: the lists of the core are those that add up and give every arc's users the source's bound, or the need.
-use Prim.Native.Nat.{ℕ, pred, _+_, _-_, _≤_, _<_}
+use Prim.Native.Nat.{ℕ, _+_, _-_, _≤_, _<_}
 use mathlib.Core.Path.{_≡_, sym, ap, _∙_}
 use mathlib.Core.Bool.{Bool, true, false}
 use mathlib.Core.Logic.{⊎-elim}
@@ -8,7 +8,7 @@ use native.Mathlib.Omega.{arith}
 use lib.Dec.{eqb}
 use lib.IntN.{ℤ, pos}
 use lib.Signed.{_≤ℤ_}
-use Rattle.basics.specs.Sum.{pick, sum}
+use Rattle.basics.specs.Sum.{pick, sum₀}
 use Rattle.game.specs.Network.{Network, atOrBelow, groupCost, sumBelow, need, wholeCost, number, memberCount}
 use Rattle.game.specs.Group.{byNumber}
 use Rattle.basics.specs.Integer.{plus, minus}
@@ -40,7 +40,7 @@ module _ (n : Network) where
 
   -- a sum over an arc's users, by member number and by vertex
   pub users-by-vertex : (x : ℕ → ℕ) (k : ℕ)
-      → sum (memberCount n) (λ i. pick (users n k (pred i)) (x (pred i))) ≡ sumBelow n (λ v. pick (n .member v) (x (number n v))) k
+      → sum₀ (memberCount n) (λ j. pick (users n k j) (x j)) ≡ sumBelow n (λ v. pick (n .member v) (x (number n v))) k
   users-by-vertex x k = by-vertex n (users n k) x ∙ users-sum (λ v. pick (n .member v) (x (number n v))) (λ v i m. pick-no (x (number n v)) m) k
 
 module _ (n : Network) (shares : List ℤ) where

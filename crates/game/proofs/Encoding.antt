@@ -1,5 +1,5 @@
 -- A word by its bits, and the sixteen words of a group by the group's bits.
-use Prim.Native.Nat.{ℕ, zero, suc, pred, _+_, _*_, _/_, _%_, _^_, _<_, _≤_}
+use Prim.Native.Nat.{ℕ, zero, suc, _+_, _*_, _/_, _%_, _^_, _<_, _≤_}
 use mathlib.Core.Path.{_≡_, refl, sym, ap, _∙_}
 use mathlib.Core.Bool.{Bool, true, false}
 use mathlib.Core.List.{List}
@@ -11,20 +11,19 @@ use lib.Dec.{eqb}
 use lib.ListN.{length, getD, set, replicate, length-set, List·getD-eq-default}
 use lib.Seq.{getD-set-same, getD-set-other, set-out}
 use lib.Pow.{shr-shr}
-use Rattle.basics.specs.Sum.{pick, sum}
+use Rattle.basics.specs.Sum.{pick, sum₀}
 use Rattle.basics.specs.Bit.{digit, bit}
 use Rattle.game.specs.Group.{wordsOf}
 use Rattle.basics.proofs.Bools.{pick-le}
-use Rattle.basics.proofs.Sums.{sum-cong}
-use Rattle.basics.proofs.Lists.{list-at, list-is}
+use Rattle.basics.proofs.Sums.{sum₀-cong}
+use Rattle.basics.proofs.Lists.{entries-length, entries-at, entries-are}
 
 -- the number whose k lowest bits are f's
 abbrev word : ℕ → (ℕ → Bool) → ℕ
-word k f = sum k (λ b. pick (f (pred b)) (2 ^ pred b))
+word k f = sum₀ k (λ b. pick (f b) (2 ^ b))
 
 word-same : (k : ℕ) (f g : ℕ → Bool) → ((i : ℕ) → i < k → f i ≡ g i) → word k f ≡ word k g
-word-same k f g e =
-    sum-cong k (λ b i. ap (λ (x : Bool). pick x (2 ^ pred b)) (e (pred b) (omega arith)))
+word-same k f g e = sum₀-cong k (λ b i. ap (λ (x : Bool). pick x (2 ^ b)) (e b i))
 
 counted : (d : ℕ) → d < 2 → pick (eqb d 1) 1 ≡ d
 counted zero h = refl
@@ -92,17 +91,17 @@ module _ (g : ℕ → Bool) where
   part : ℕ → ℕ
   part i = word 64 (λ b. g (64 * i + b))
 
-  words-length : length (wordsOf g) ≡ 16
-  unfolding wordsOf
-  words-length = refl
+  pub words-length : length (wordsOf g) ≡ 16
+  unfolding wordsOf part
+  words-length = entries-length part 16
 
   words-at : (i : ℕ) → i < 16 → getD (wordsOf g) i 0 ≡ part i
   unfolding wordsOf part
-  words-at i h = list-at (λ k. part (pred k)) 0 16 i h
+  words-at i h = entries-at part 0 16 i h
 
   words-are : (words : List ℕ) → length words ≡ 16 → ((i : ℕ) → i < 16 → getD words i 0 ≡ part i) → words ≡ wordsOf g
   unfolding wordsOf part
-  words-are words l h = list-is (λ i. part (pred i)) 0 16 words l h
+  words-are words l h = entries-are part 0 16 words l h
 
   words-lt : (i : ℕ) → getD (wordsOf g) i 0 < 2 ^ 64
   unfolding part

@@ -1,5 +1,5 @@
 -- The distance from the Shapley value of any division that gives each arc's cost evenly to its users.
-use Prim.Native.Nat.{ℕ, suc, pred, _+_, _*_, _-_, _/_, _%_, _≤_, _<_, zero-le}
+use Prim.Native.Nat.{ℕ, _+_, _*_, _-_, _/_, _%_, _≤_, _<_, zero-le}
 use mathlib.Core.Path.{_≡_, sym, ap, _∙_}
 use mathlib.Core.Bool.{Bool, true, false}
 use mathlib.Core.Logic.{⊎-elim}
@@ -8,13 +8,14 @@ use native.Mathlib.Decide.{ℕ-discrete}
 use native.Mathlib.Omega.{arith}
 use borrow.Author.Tests.{ne-eqb}
 use lib.Dec.{eqb}
-use Rattle.basics.specs.Sum.{pick, sum, count, size}
+use Rattle.basics.specs.Sum.{pick, sum, count}
 use Rattle.game.specs.Network.{Network, memberCount}
 use Rattle.game.specs.Core.{users}
 use Rattle.game.specs.ByArc.{userCount}
 use Rattle.game.specs.Shapley.{factorial, shapley, pathLength, Even, Within}
 use Rattle.basics.proofs.Bools.{both, pick-yes, pick-no, pick-le}
-use Rattle.basics.proofs.Sums.{In, sum-mono, sum-add, sum-times, sum-count, sum-at, term-le}
+use Rattle.basics.proofs.Sums.{In, sum-mono, sum-add, sum-times, sum-count, term-le, sum₀-mono, sum₀-add, sum₀-at}
+use Rattle.basics.proofs.Sizes.{size-times}
 use Rattle.game.proofs.Below.{Rooted, below-self}
 use Rattle.game.proofs.Numbering.{vertex-of}
 use Rattle.game.proofs.Bounds.{users-at}
@@ -59,16 +60,15 @@ sum-above m d u f h picked rest some =
 module _ (n : Network) (i : ℕ) (h : i < memberCount n) where
   -- after the least for every user, what i gets above it is left of the cost
   left-over : (k : ℕ) (g : ℕ → ℕ) → Even n k g → users n k i ≡ true → n .cost k / userCount n k * userCount n k + (g i - n .cost k / userCount n k) ≤ n .cost k
-  unfolding size
   left-over k g even u =
       let q = n .cost k / userCount n k in
       omega (
         arith,
         even .all,
-        sum-mono (memberCount n) {f = λ j. pick (users n k (pred j)) q + pick (eqb (suc i) j) (g i - q)} {g = λ j. g (pred j)} term,
-        sum-add (memberCount n) (λ j. pick (users n k (pred j)) q) (λ j. pick (eqb (suc i) j) (g i - q)),
-        sum-count (memberCount n) q (λ j. users n k (pred j)),
-        sum-at (memberCount n) (suc i) (λ j. g i - q) (omega arith),
+        sum₀-mono (memberCount n) {f = λ j. pick (users n k j) q + pick (eqb i j) (g i - q)} {g = g} (λ j l. term j),
+        sum₀-add (memberCount n) (λ j. pick (users n k j) q) (λ j. pick (eqb i j) (g i - q)),
+        size-times (memberCount n) q (users n k),
+        sum₀-at (memberCount n) i (λ j. g i - q) h,
       )
     where
       others : (j : ℕ) → pick (users n k j) (n .cost k / userCount n k) ≤ g j
@@ -78,11 +78,19 @@ module _ (n : Network) (i : ℕ) (h : i < memberCount n) where
           (λ (e : users n k j ≡ false). rw e zero-le)
           (both (users n k j))
 
-      term : (j : ℕ) → In (memberCount n) j → pick (users n k (pred j)) (n .cost k / userCount n k) + pick (eqb (suc i) j) (g i - n .cost k / userCount n k) ≤ g (pred j)
-      term j l =
-          elim (ℕ-discrete (suc i) j) [
-            | yes e ↦ rw (← e) (omega (arith, even .least i u, pick-le (users n k i) (n .cost k / userCount n k), pick-le (eqb (suc i) (suc i)) (g i - n .cost k / userCount n k)))
-            | no e ↦ omega (arith, others (pred j), pick-no (g i - n .cost k / userCount n k) (ne-eqb (suc i) j e))
+      term : (j : ℕ)
+          → pick (users n k j) (n .cost k / userCount n k) + pick (eqb i j) (g i - n .cost k / userCount n k) ≤ g j
+      term j =
+          elim (ℕ-discrete i j) [
+            | yes e ↦
+                rw (← e)
+                (omega (
+                  arith,
+                  even .least i u,
+                  pick-le (users n k i) (n .cost k / userCount n k),
+                  pick-le (eqb i i) (g i - n .cost k / userCount n k),
+                ))
+            | no e ↦ omega (arith, others j, pick-no (g i - n .cost k / userCount n k) (ne-eqb i j e))
           ]
 
   -- at an arc of the member's path

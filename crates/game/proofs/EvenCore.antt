@@ -1,5 +1,5 @@
 -- A division that gives each arc's cost evenly to its users meets every need and adds up.
-use Prim.Native.Nat.{ℕ, pred, _≤_, _<_}
+use Prim.Native.Nat.{ℕ, _≤_, _<_}
 use mathlib.Core.Path.{_≡_, sym, ap, _∙_}
 use mathlib.Core.Bool.{Bool, true, false}
 use mathlib.Core.Logic.{⊎-elim}
@@ -7,12 +7,12 @@ use mathlib.Core.List.{List, map}
 use native.Mathlib.Omega.{arith}
 use lib.ListN.{getD}
 use lib.IntN.{pos}
-use Rattle.basics.specs.Sum.{pick, sum}
+use Rattle.basics.specs.Sum.{pick, sum, sum₀}
 use Rattle.game.specs.Network.{Network, atOrBelow, memberCount, sumBelow, wholeCost, members}
 use Rattle.game.specs.Core.{users, CoreByNeed}
 use Rattle.game.specs.Shapley.{Even}
 use Rattle.basics.proofs.Bools.{both, pick-yes, pick-no, pick-zero}
-use Rattle.basics.proofs.Sums.{In, sum-cong, sum-mono, sum-swap, sum-pick}
+use Rattle.basics.proofs.Sums.{In, sum-cong, sum-mono, sum-pick, sum₀-cong, sum₀-swap}
 use Rattle.game.proofs.Below.{Rooted, below-trans}
 use Rattle.game.proofs.NaturalShares.{has, natural-core}
 
@@ -21,13 +21,14 @@ module _ (n : Network) (l : List ℕ) where
   module _ (gift : ℕ → ℕ → ℕ) (even : (k : ℕ) → In (n .arcs) k → Even n k (gift k))
       (sums : (j : ℕ) → j < memberCount n → getD l j 0 ≡ sum (n .arcs) (λ k. gift k j)) where
     -- what a group pays, arc by arc
-    by-arcs : (g : ℕ → Bool) → has n l g ≡ sum (n .arcs) (λ k. sum (memberCount n) (λ i. pick (g (pred i)) (gift k (pred i))))
+    by-arcs : (g : ℕ → Bool) → has n l g ≡ sum (n .arcs) (λ k. sum₀ (memberCount n) (λ j. pick (g j) (gift k j)))
     by-arcs g =
-        sum-cong (memberCount n) (λ i h. ap (pick (g (pred i))) (sums (pred i) (omega (arith, h .low, h .high))) ∙ sym (sum-pick (g (pred i)) (n .arcs) (λ k. gift k (pred i))))
-        ∙ sum-swap (memberCount n) (n .arcs) (λ i k. pick (g (pred i)) (gift k (pred i)))
+        sum₀-cong (memberCount n) (λ j h. ap (pick (g j)) (sums j h) ∙ sym (sum-pick (g j) (n .arcs) (λ k. gift k j)))
+        ∙ sum₀-swap (memberCount n) (n .arcs) (λ j k. pick (g j) (gift k j))
 
     -- the users of an arc at or below f use f too
-    to-users : Rooted n → (f k : ℕ) → In (n .arcs) k → pick (atOrBelow n f k) (n .cost k) ≤ sum (memberCount n) (λ i. pick (users n f (pred i)) (gift k (pred i)))
+    to-users : Rooted n → (f k : ℕ) → In (n .arcs) k
+        → pick (atOrBelow n f k) (n .cost k) ≤ sum₀ (memberCount n) (λ j. pick (users n f j) (gift k j))
     to-users rooted f k i =
         ⊎-elim
         (λ (b : atOrBelow n f k ≡ true).
@@ -35,7 +36,7 @@ module _ (n : Network) (l : List ℕ) where
           arith,
           pick-yes (n .cost k) b,
           even k i .all,
-          sum-cong (memberCount n) {f = λ v. pick (users n f (pred v)) (gift k (pred v))} {g = λ v. gift k (pred v)} (λ v h. whole b (pred v)),
+          sum₀-cong (memberCount n) {f = λ j. pick (users n f j) (gift k j)} {g = gift k} (λ j h. whole b j),
         ))
         (λ (b : atOrBelow n f k ≡ false). omega (arith, pick-no (n .cost k) b))
         (both (atOrBelow n f k))
@@ -55,5 +56,6 @@ module _ (n : Network) (l : List ℕ) where
         omega (
           arith,
           by-arcs (users n f),
-          sum-mono (n .arcs) {f = λ k. pick (atOrBelow n f k) (n .cost k)} {g = λ k. sum (memberCount n) (λ v. pick (users n f (pred v)) (gift k (pred v)))} (to-users rooted f),
+          sum-mono (n .arcs) {f = λ k. pick (atOrBelow n f k) (n .cost k)}
+              {g = λ k. sum₀ (memberCount n) (λ j. pick (users n f j) (gift k j))} (to-users rooted f),
         ))

@@ -1,5 +1,5 @@
 -- The by-arc rule's gifts divide an arc's cost evenly.
-use Prim.Native.Nat.{ℕ, zero, suc, pred, _/_, _%_, _<_, min}
+use Prim.Native.Nat.{ℕ, zero, suc, _/_, _%_, _<_, min}
 use mathlib.Core.Path.{_≡_, _∙_}
 use mathlib.Core.Bool.{Bool, true, false}
 use mathlib.Core.Logic.{⊎-elim}
@@ -8,17 +8,17 @@ use native.Mathlib.Decide.{decLt}
 use native.Mathlib.Omega.{arith}
 use borrow.Author.Tests.{lt-ltb, le-ltb}
 use lib.Dec.{ltb}
-use Rattle.basics.specs.Sum.{pick, sum, size}
+use Rattle.basics.specs.Sum.{pick, sum₀, size}
 use Rattle.game.specs.Network.{Network, memberCount}
 use Rattle.game.specs.Core.{users}
 use Rattle.game.specs.ByArc.{userCount, gift}
 use Rattle.game.specs.Shapley.{Even}
 use Rattle.basics.proofs.Bools.{both, pick-yes, pick-no, pick-add, pick-le}
-use Rattle.basics.proofs.Sums.{sum-cong, sum-add, sum-count}
-use Rattle.basics.proofs.Sizes.{size-more, size-none}
+use Rattle.basics.proofs.Sums.{sum₀-cong, sum₀-add}
+use Rattle.basics.proofs.Sizes.{size-more, size-times, size-none}
 
 -- one unit to each of the r lowest numbers of a group
-lowest-sum : (n r : ℕ) (a : ℕ → Bool) → sum n (λ i. pick (a (pred i)) (pick (ltb (size (pred i) a) r) 1)) ≡ min (size n a) r
+lowest-sum : (n r : ℕ) (a : ℕ → Bool) → sum₀ n (λ i. pick (a i) (pick (ltb (size i a) r) 1)) ≡ min (size n a) r
 lowest-sum zero r a = omega (arith, size-none 0 a (λ i l. absurd (omega arith)))
 lowest-sum (suc n) r a =
     ⊎-elim
@@ -31,7 +31,6 @@ lowest-sum (suc n) r a =
     (both (a n))
 
 pub gift-even : (n : Network) (k : ℕ) → 0 < userCount n k → Even n k (gift n k)
-unfolding size
 gift-even n k h =
     record {
       others = λ j e. rw e;
@@ -46,8 +45,14 @@ gift-even n k h =
     more : ℕ → Bool
     more j = ltb (size j (users n k)) (n .cost k % userCount n k)
 
-    together : sum (memberCount n) (λ i. gift n k (pred i)) ≡ n .cost k
+    together : sum₀ (memberCount n) (gift n k) ≡ n .cost k
     together =
-        sum-cong (memberCount n) (λ i l. pick-add (users n k (pred i)) q (pick (more (pred i)) 1))
-        ∙ sum-add (memberCount n) (λ i. pick (users n k (pred i)) q) (λ i. pick (users n k (pred i)) (pick (more (pred i)) 1))
-        ∙ omega (arith, sum-count (memberCount n) q (λ i. users n k (pred i)), lowest-sum (memberCount n) (n .cost k % userCount n k) (users n k), div-add-mod (n .cost k) (userCount n k), mod-lt (n .cost k) h)
+        sum₀-cong (memberCount n) (λ j l. pick-add (users n k j) q (pick (more j) 1))
+        ∙ sum₀-add (memberCount n) (λ j. pick (users n k j) q) (λ j. pick (users n k j) (pick (more j) 1))
+        ∙ omega (
+          arith,
+          size-times (memberCount n) q (users n k),
+          lowest-sum (memberCount n) (n .cost k % userCount n k) (users n k),
+          div-add-mod (n .cost k) (userCount n k),
+          mod-lt (n .cost k) h,
+        )

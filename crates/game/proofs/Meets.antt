@@ -1,17 +1,16 @@
 -- Two groups of member numbers that share a member; a group uses an arc where it shares one with the arc's users.
-use Prim.Native.Nat.{ℕ, zero, suc, pred, _<_}
+use Prim.Native.Nat.{ℕ, zero, suc, _<_}
 use mathlib.Core.Path.{_≡_, refl, sym, ap, _∙_}
-use mathlib.Core.Bool.{Bool, true, _&&_, _||_, or-false, or-assoc}
+use mathlib.Core.Bool.{Bool, true, false, _&&_, _||_, or-false, or-assoc, false≢true}
 use mathlib.Core.Logic.{_⊎_, inl, inr, ⊎-elim}
+use native.Mathlib.Decide.{decLt}
 use native.Mathlib.Omega.{arith}
 use borrow.Author.Tests.{eqb-true, eq-eqb}
 use lib.Dec.{eqb}
-use Rattle.basics.specs.Sum.{some}
 use Rattle.game.specs.Network.{Network, atOrBelow, used, number, memberCount}
 use Rattle.game.specs.Group.{byNumber}
 use Rattle.game.specs.Core.{users}
 use Rattle.basics.proofs.Bools.{and-both, and-first, and-second, or-first, or-second, or-cases, same-test}
-use Rattle.basics.proofs.Sums.{some-of, some-is}
 use Rattle.game.proofs.Groups.{UsedBy, used-of, used-by}
 use Rattle.game.proofs.Numbering.{vertex-of}
 use Rattle.game.proofs.Overpayment.{number-lt}
@@ -19,7 +18,8 @@ use Rattle.game.proofs.Bounds.{users-at}
 
 -- some number below n is in both groups
 unfoldable pub meets : ℕ → (ℕ → Bool) → (ℕ → Bool) → Bool
-meets n g a = some n (λ i. g (pred i) && a (pred i))
+meets zero g a = false
+meets (suc n) g a = meets n g a || (g n && a n)
 
 -- from the first number on
 pub meets-first : (n : ℕ) (g a : ℕ → Bool) → meets (suc n) g a ≡ ((g 0 && a 0) || meets n (λ j. g (suc j)) (λ j. a (suc j)))
@@ -38,18 +38,29 @@ pub record Shared (n : ℕ) (g a : ℕ → Bool) : Type 0 where
 
 pub shared-by : (n : ℕ) (g a : ℕ → Bool) → meets n g a ≡ true → Shared n g a
 unfolding meets
-shared-by n g a e =
-    let s = some-is n (λ i. g (pred i) && a (pred i)) e in
-    record {
-      which = pred (s .which);
-      below = omega arith;
-      one = and-first (g (pred (s .which))) (a (pred (s .which))) (s .passes);
-      other = and-second (g (pred (s .which))) (a (pred (s .which))) (s .passes);
-    }
+shared-by zero g a e = absurd (false≢true e)
+shared-by (suc n) g a e =
+    ⊎-elim
+    (λ (h : meets n g a ≡ true).
+    let s = shared-by n g a h in
+    record { which = s .which; below = omega arith; one = s .one; other = s .other })
+    (λ (h : (g n && a n) ≡ true).
+    record { which = n; below = omega arith; one = and-first (g n) (a n) h; other = and-second (g n) (a n) h })
+    (or-cases (meets n g a) (g n && a n) e)
 
 pub meets-of : {n : ℕ} {g a : ℕ → Bool} → Shared n g a → meets n g a ≡ true
 unfolding meets
-meets-of {n} {g} {a} s = some-of n (suc (s .which)) (λ i. g (pred i) && a (pred i)) (omega arith) (and-both (s .one) (s .other))
+meets-of {n} {g} {a} s = up-to n (s .below)
+  where
+    up-to : (m : ℕ) → s .which < m → meets m g a ≡ true
+    up-to zero h = absurd (omega arith)
+    up-to (suc m) h =
+        elim (decLt (s .which) m) [
+          | yes l ↦ or-first (g m && a m) (up-to m l)
+          | no l ↦
+              let last : s .which ≡ m = omega arith in
+              or-second (meets m g a) (rw last at (and-both (s .one) (s .other)))
+        ]
 
 -- one number more
 pub meets-more : (n : ℕ) (g a : ℕ → Bool) (i : ℕ) → i < n → meets n (λ j. g j || eqb j i) a ≡ (meets n g a || a i)

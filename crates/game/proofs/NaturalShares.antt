@@ -1,12 +1,12 @@
 -- Lists without negative shares: what a group pays, and when they are in the core.
-use Prim.Native.Nat.{ℕ, pred, _≤_}
+use Prim.Native.Nat.{ℕ, _≤_}
 use mathlib.Core.Path.{_≡_, refl, ap, _∙_}
 use mathlib.Core.Bool.{Bool, true, false}
 use mathlib.Core.List.{List, map}
 use native.Mathlib.Omega.{arith}
 use lib.ListN.{getD, List·getD-map}
 use lib.IntN.{pos}
-use Rattle.basics.specs.Sum.{pick, sum}
+use Rattle.basics.specs.Sum.{pick, sum₀}
 use Rattle.game.specs.Network.{Network, memberCount, need, wholeCost}
 use Rattle.basics.specs.Integer.{pickℤ}
 use Rattle.game.specs.Proposal.{share, pays}
@@ -20,7 +20,7 @@ pick-pos-ℤ false x = refl
 module _ (n : Network) (l : List ℕ) where
   -- what a group has of the list
   abbrev pub has : (ℕ → Bool) → ℕ
-  has g = sum (memberCount n) (λ i. pick (g (pred i)) (getD l (pred i) 0))
+  has g = sum₀ (memberCount n) (λ j. pick (g j) (getD l j 0))
 
   pays-pos : (g : ℕ → Bool) → pays n (map pos l) g ≡ pos (has g)
   unfolding pays

@@ -7,7 +7,7 @@ use mathlib.Core.List.{List}
 use native.Mathlib.Omega.{arith}
 use lib.IntN.{ℤ, pos, _+ℤ_, _-ℤ_}
 use lib.Signed.{_≤ℤ_}
-use Rattle.basics.specs.Sum.{pick, sum, count}
+use Rattle.basics.specs.Sum.{pick, sum, count, sum₀}
 use Rattle.game.specs.Network.{Network, atOrBelow, used, groupCost, number, memberCount}
 use Rattle.game.specs.Group.{byNumber}
 use Rattle.basics.specs.Integer.{plus, minus, sumℤ, pickℤ}
@@ -19,16 +19,18 @@ use Rattle.game.proofs.Numbering.{before-member}
 use Rattle.basics.proofs.Integers.{Less, less-parts, less-minus, less-sum, less-le, le-less}
 
 -- a sum over member numbers is one over the members' vertices
-pub members-sum : (m : ℕ) (mem : ℕ → Bool) (x : ℕ → ℕ) → sum (count m mem) (λ i. x (pred i)) ≡ sum m (λ v. pick (mem v) (x (count (pred v) mem)))
+pub members-sum : (m : ℕ) (mem : ℕ → Bool) (x : ℕ → ℕ)
+    → sum₀ (count m mem) x ≡ sum m (λ v. pick (mem v) (x (count (pred v) mem)))
 members-sum zero mem x = refl
 members-sum (suc m) mem x =
     ⊎-elim
     (λ (e : mem (suc m) ≡ true).
     let more : count m mem + pick (mem (suc m)) 1 ≡ suc (count m mem) = rw e (omega arith) in
-    ap (λ (k : ℕ). sum k (λ i. x (pred i))) more ∙ ap₂ (λ (s : ℕ) (b : Bool). s + pick b (x (count m mem))) (members-sum m mem x) (sym e))
+    ap (λ (k : ℕ). sum₀ k x) more
+    ∙ ap₂ (λ (s : ℕ) (b : Bool). s + pick b (x (count m mem))) (members-sum m mem x) (sym e))
     (λ (e : mem (suc m) ≡ false).
     let same : count m mem + pick (mem (suc m)) 1 ≡ count m mem = rw e (omega arith) in
-    ap (λ (k : ℕ). sum k (λ i. x (pred i))) same ∙ members-sum m mem x ∙ rw e (omega arith))
+    ap (λ (k : ℕ). sum₀ k x) same ∙ members-sum m mem x ∙ rw e (omega arith))
     (both (mem (suc m)))
 
 module _ (n : Network) where
@@ -90,7 +92,7 @@ module _ (n : Network) where
   group-sum x g = sum (n .arcs) (λ v. pick (byNumber n g v) (x v))
 
   pub by-vertex : (g : ℕ → Bool) (x : ℕ → ℕ)
-      → sum (memberCount n) (λ i. pick (g (pred i)) (x (pred i))) ≡ group-sum (λ v. pick (n .member v) (x (number n v))) g
+      → sum₀ (memberCount n) (λ j. pick (g j) (x j)) ≡ group-sum (λ v. pick (n .member v) (x (number n v))) g
   by-vertex g x =
       members-sum (n .arcs) (n .member) (λ j. pick (g j) (x j)) ∙ sum-cong (n .arcs) (λ v i. pick-swap (n .member v) (g (number n v)) (x (number n v)))
 

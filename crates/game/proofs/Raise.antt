@@ -1,5 +1,5 @@
 -- Units given out one by one raise an arc's users to a level, the lowest numbers first.
-use Prim.Native.Nat.{ℕ, zero, suc, pred, _+_, _-_, _≤_, _<_}
+use Prim.Native.Nat.{ℕ, zero, suc, _+_, _-_, _≤_, _<_}
 use mathlib.Core.Path.{_≡_, sym, ap, _∙_, subst}
 use mathlib.Core.Bool.{true, false}
 use mathlib.Core.Logic.{_⊎_, inl, inr, ⊎-elim}
@@ -17,7 +17,7 @@ use Rattle.game.specs.Core.{users}
 use Rattle.game.specs.Level.{mayTake, firstLeast, unit, units}
 use Rattle.game.proofs.Rise.{rise, fill}
 use Rattle.basics.proofs.Bools.{both, and-both, and-first, and-second, pick-yes, pick-no}
-use Rattle.basics.proofs.Sums.{sum-cong, sum-add, sum-zero, sum-at}
+use Rattle.basics.proofs.Sums.{sum₀-cong, sum₀-add, sum₀-zero, sum₀-at}
 use Rattle.game.proofs.Smallest.{is-first}
 
 pub smaller-is : (a b : ℕ) → smaller a b ≡ a - (a - b)
@@ -119,25 +119,24 @@ module _ (n : Network) (caps : List ℕ) (k : ℕ) (l : List ℕ) where
 
     -- the others' parts are the same, so the sum goes with q's
     fill-not : Unserved → fill n caps k l level (suc q) ≡ fill n caps k l level q
-    fill-not s = sum-cong (memberCount n) (λ i h. s .same (pred i) (omega (arith, h .low, h .high)))
+    fill-not s = sum₀-cong (memberCount n) (s .same)
 
     fill-served : Served → fill n caps k l level (suc q) ≡ fill n caps k l level q + 1
     fill-served s =
-        sum-cong (memberCount n) (λ i j. one-more i (j .low))
-        ∙ sum-add (memberCount n) (λ i. rise n caps k l level q (pred i)) (λ i. pick (eqb (suc q) i) 1)
-        ∙ ap (λ (a : ℕ). fill n caps k l level q + a) (sum-at (memberCount n) (suc q) (λ i. 1) (omega (arith, s .is-member)))
+        sum₀-cong (memberCount n) (λ j h. one-more j)
+        ∙ sum₀-add (memberCount n) (rise n caps k l level q) (λ j. pick (eqb q j) 1)
+        ∙ ap (λ (a : ℕ). fill n caps k l level q + a) (sum₀-at (memberCount n) q (λ j. 1) (s .is-member))
       where
-        one-more : (i : ℕ) → 0 < i → rise n caps k l level (suc q) (pred i) ≡ rise n caps k l level q (pred i) + pick (eqb (suc q) i) 1
-        one-more i p =
-            elim (ℕ-discrete (pred i) q) [
+        one-more : (j : ℕ) → rise n caps k l level (suc q) j ≡ rise n caps k l level q j + pick (eqb q j) 1
+        one-more j =
+            elim (ℕ-discrete j q) [
               | yes d ↦
-                  let same : suc q ≡ i = omega arith in
                   omega (
                     arith,
-                    pick-yes 1 (eq-eqb (suc q) i same),
+                    pick-yes 1 (eq-eqb q j (sym d)),
                     subst (λ (j : ℕ). rise n caps k l level (suc q) j ≡ rise n caps k l level q j + 1) (sym d) (rise-served s),
                   )
-              | no d ↦ omega (arith, pick-no 1 (ne-eqb (suc q) i (λ e. d (omega arith))), rise-other level q (pred i) d)
+              | no d ↦ omega (arith, pick-no 1 (ne-eqb q j (λ e. d (sym e))), rise-other level q j d)
             ]
 
     -- one number more takes one unit more, or nothing
@@ -200,7 +199,7 @@ module _ (n : Network) (caps : List ℕ) (k : ℕ) (l : List ℕ) where
 
   -- everybody one above a level
   pub fill-next-level : (level q : ℕ) → memberCount n ≤ q → fill n caps k l level q ≡ fill n caps k l (suc level) 0
-  fill-next-level level q all = sum-cong (memberCount n) (λ i j. next-level level q (pred i) all (omega (arith, j .low, j .high)))
+  fill-next-level level q all = sum₀-cong (memberCount n) (λ j h. next-level level q j all h)
 
   to-next : (level q : ℕ) → memberCount n ≤ q → Raised level q (units n caps k (fill n caps k l level q) l) → Raised (suc level) 0 (units n caps k (fill n caps k l (suc level) 0) l)
   to-next level q all full =
@@ -212,6 +211,6 @@ module _ (n : Network) (caps : List ℕ) (k : ℕ) (l : List ℕ) where
   unfolding units
   units-raise len zero q =
       up-to 0 q
-      (subst (λ (t : ℕ). Raised 0 0 (units n caps k t l)) (sym (sum-zero (memberCount n) (λ i j. raised-none (pred i))))
+      (subst (λ (t : ℕ). Raised 0 0 (units n caps k t l)) (sym (sum₀-zero (memberCount n) (λ j h. raised-none j)))
       (record { sized = len; raised = λ j i. omega (arith, raised-none j) }))
   units-raise len (suc level) q = up-to (suc level) q (to-next level (memberCount n) (omega arith) (units-raise len level (memberCount n)))

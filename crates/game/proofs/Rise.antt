@@ -1,9 +1,9 @@
 -- The level rule at one arc, in bulk: its users raised to a level.
-use Prim.Native.Nat.{ℕ, pred, _+_, _-_}
+use Prim.Native.Nat.{ℕ, _+_, _-_}
 use mathlib.Core.List.{List}
 use lib.ListN.{getD}
 use lib.Dec.{ltb}
-use Rattle.basics.specs.Sum.{pick, sum, smaller}
+use Rattle.basics.specs.Sum.{pick, sum₀, smaller}
 use Rattle.game.specs.Network.{Network, memberCount}
 use Rattle.game.specs.Core.{users}
 
@@ -21,4 +21,4 @@ rise n caps k shares level q j = pick (users n k j) (part caps shares (level + p
 
 -- what they take together
 abbrev pub fill : Network → List ℕ → ℕ → List ℕ → ℕ → ℕ → ℕ
-fill n caps k shares level q = sum (memberCount n) (λ i. rise n caps k shares level q (pred i))
+fill n caps k shares level q = sum₀ (memberCount n) (rise n caps k shares level q)

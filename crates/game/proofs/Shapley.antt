@@ -1,5 +1,5 @@
 -- Theorem 1 of the source: the Shapley value divides each arc's cost equally among its users.
-use Prim.Native.Nat.{ℕ, suc, pred, _+_, _*_, _/_, _<_}
+use Prim.Native.Nat.{ℕ, _+_, _*_, _/_, _<_}
 use mathlib.Core.Path.{_≡_, refl, sym, ap, _∙_}
 use mathlib.Core.Bool.{Bool, true, false, not, _||_, false≢true}
 use mathlib.Core.List.{List}
@@ -14,7 +14,7 @@ use Rattle.game.specs.Core.{users}
 use Rattle.game.specs.ByArc.{userCount}
 use Rattle.game.specs.Shapley.{factorial, adds, weight, shapley}
 use Rattle.basics.proofs.Bools.{pick-yes, pick-same}
-use Rattle.basics.proofs.Sums.{sum-cong, sum-add, sum-times, sum-pick, term-le}
+use Rattle.basics.proofs.Sums.{sum-cong, sum-add, sum-times, sum-pick, term₀-le}
 use Rattle.game.proofs.Meets.{meets, meets-of, meets-more, used-by-number}
 use Rattle.game.proofs.GroupSums.{over-cong, over-times, over-pick, over-sum}
 use Rattle.game.proofs.Weights.{weights-avoiding, weights-sum}
@@ -37,7 +37,7 @@ pick-weight false false m w x h = mul-zero w
 module _ (n : Network) where
   pub user-count-pos : (k j : ℕ) → j < memberCount n → users n k j ≡ true → 0 < userCount n k
   unfolding size
-  user-count-pos k j h u = omega (arith, term-le (memberCount n) (suc j) (λ i. pick (users n k (pred i)) 1) (omega arith), pick-yes 1 u)
+  user-count-pos k j h u = omega (arith, term₀-le (memberCount n) j (λ i. pick (users n k i) 1) h, pick-yes 1 u)
 
   -- n! over the number of an arc's users
   part-is : (k : ℕ) → 0 < userCount n k → factorial (memberCount n) / userCount n k ≡ weights-avoiding (memberCount n) (users n k)

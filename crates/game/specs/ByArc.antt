@@ -1,9 +1,9 @@
 -- The by-arc rule: each arc's cost is divided among its users alone.
-use Prim.Native.Nat.{ℕ, zero, suc, pred, _+_, _/_, _%_}
+use Prim.Native.Nat.{ℕ, zero, suc, _+_, _/_, _%_}
 use mathlib.Core.List.{List}
 use lib.ListN.{getD, replicate}
 use lib.Dec.{ltb}
-use Rattle.basics.specs.Sum.{pick, list, size}
+use Rattle.basics.specs.Sum.{pick, size, entries}
 use Rattle.game.specs.Network.{Network, memberCount}
 use Rattle.game.specs.Core.{users}
 
@@ -17,7 +17,7 @@ gift n k j = pick (users n k j) (n .cost k / userCount n k + pick (ltb (size j (
 
 -- the shares with arc k's gifts added
 unfoldable pub giveArc : Network → ℕ → List ℕ → List ℕ
-giveArc n k shares = list (memberCount n) (λ i. getD shares (pred i) 0 + gift n k (pred i))
+giveArc n k shares = entries (memberCount n) (λ j. getD shares j 0 + gift n k j)
 
 -- the arcs from k down to 1
 unfoldable pub byArcDown : Network → ℕ → List ℕ → List ℕ

@@ -1,10 +1,10 @@
 -- The Shapley value, times n! so that it is whole, by its definition over all groups; and what a division of each arc's cost keeps to.
-use Prim.Native.Nat.{ℕ, zero, suc, pred, _+_, _*_, _-_, _/_, _≤_, _<_}
+use Prim.Native.Nat.{ℕ, zero, suc, _+_, _*_, _-_, _/_, _≤_, _<_}
 use mathlib.Core.Path.{_≡_}
 use mathlib.Core.Bool.{Bool, true, false, not, _||_}
 use mathlib.Core.List.{List, [], _∷_}
 use lib.Dec.{eqb}
-use Rattle.basics.specs.Sum.{pick, sum, count, size}
+use Rattle.basics.specs.Sum.{pick, count, sum₀, size}
 use Rattle.game.specs.Network.{Network, groupCost, memberCount}
 use Rattle.game.specs.Group.{byNumber}
 use Rattle.game.specs.Search.{groups, isIn}
@@ -43,7 +43,7 @@ pub record Even (n : Network) (k : ℕ) (g : ℕ → ℕ) : Type 0 where
   pub others : (j : ℕ) → users n k j ≡ false → g j ≡ 0
   pub least : (j : ℕ) → users n k j ≡ true → n .cost k / userCount n k ≤ g j
   pub most : (j : ℕ) → users n k j ≡ true → g j ≤ n .cost k / userCount n k + 1
-  pub all : sum (memberCount n) (λ i. g (pred i)) ≡ n .cost k
+  pub all : sum₀ (memberCount n) g ≡ n .cost k
 
 -- a and b differ by less than d
 pub record Within (d a b : ℕ) : Type 0 where

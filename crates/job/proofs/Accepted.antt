@@ -5,6 +5,7 @@ use mathlib.Core.Bool.{not}
 use mathlib.Core.List.{List}
 use native.Mathlib.Omega.{arith}
 use lib.Dec.{eqb}
+use Rattle.basics.proofs.Lists.{entries-length}
 use Rattle.answer_forms.specs.Answer.{accepted, fault, _then_}
 use Rattle.limits.specs.Limits.{mostArcs}
 use Rattle.answers.specs.Checks.{treeCheck, proposalCheck}
@@ -13,7 +14,6 @@ use Rattle.answer_forms.proofs.Composed.{first-accepted, second-accepted, no-fa
 use Rattle.answers.proofs.Accepted.{tree-accepted}
 use Rattle.answers.proofs.Limits.{members-bound}
 use Rattle.job_bytes.specs.Format.{arcOffset, jobArcs, jobMembers, parentAt, jobCaps, jobProposals}
-use Rattle.job_bytes.proofs.Entries.{length-entries}
 use Rattle.job_form.specs.Form.{formCheck, fillersCheck}
 use Rattle.job_form.proofs.FormAccepted.{alike}
 use Rattle.job.specs.JobCheck.{jobTree, treeMembers, countCheck, sharesCheck, valuesCheck, jobCheck}
@@ -51,7 +51,12 @@ job-accepted bytes e =
 
 module _ (bytes : List ℕ) (ok : JobAccepted bytes) where
   pub few-arcs : jobArcs bytes ≤ mostArcs
-  few-arcs = omega (arith, tree-accepted (jobTree bytes) (ok .tree) .few, length-entries (jobArcs bytes) (parentAt bytes (arcOffset bytes)))
+  few-arcs =
+      omega (
+        arith,
+        tree-accepted (jobTree bytes) (ok .tree) .few,
+        entries-length (parentAt bytes (arcOffset bytes)) (jobArcs bytes),
+      )
 
   pub few-members : jobMembers bytes ≤ mostArcs
   few-members = omega (arith, members-bound (jobTree bytes) (tree-accepted (jobTree bytes) (ok .tree)), ok .rows)

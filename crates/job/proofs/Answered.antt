@@ -8,11 +8,11 @@ use borrow.Author.Tests.{ltb-false}
 use lib.ListN.{length, drop}
 use lib.IntN.{ℤ}
 use lib.Dec.{ltb}
+use Rattle.basics.specs.Sum.{entries}
 use Rattle.basics.proofs.Bools.{neither-first, neither-second}
 use Rattle.answer_forms.specs.Answer.{Answer, value, refusal, accepted, refused}
 use Rattle.limits.specs.Limits.{mostArcs}
 use Rattle.answer_forms.proofs.Composed.{no-fault}
-use Rattle.job_bytes.specs.Numbers.{entries}
 use Rattle.job_bytes.specs.Format.{parentAt, costAt, capAt, proposalAt}
 use Rattle.job_bytes.specs.Inner.{TrailerOf}
 use Rattle.job_form.proofs.FormAccepted.{form-layout}

@@ -3,6 +3,7 @@ use Prim.Native.Nat.{ℕ}
 use mathlib.Core.Path.{_≡_, refl, sym, ap, _∙_}
 use native.Mathlib.Omega.{arith}
 use lib.IntN.{ℤ}
+use Rattle.basics.specs.Sum.{entries}
 use Rattle.game.specs.Network.{memberCount}
 use Rattle.game.specs.Tree.{Tree, network}
 use Rattle.answer_forms.specs.Answer.{Check, accepted, refused, answer}
@@ -12,7 +13,6 @@ use Rattle.answer_forms.specs.declared.Refusal.{Refusal}
 use Rattle.engine.specs.Outcomes.{memberCountOf}
 use Rattle.engine.specs.declared.members.MemberCount.{MemberCount}
 use Rattle.engine.specs.declared.members.MemberCount.the-variants.{Members, Refused as NoMembers}
-use Rattle.job_bytes.specs.Numbers.{entries}
 use Rattle.job.specs.JobCheck.{sharesOf}
 use Rattle.job.specs.Inner.{treeFound}
 

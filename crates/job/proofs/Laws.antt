@@ -3,10 +3,10 @@ use Prim.Native.Nat.{ℕ}
 use mathlib.Core.Path.{_≡_, sym}
 use mathlib.Core.List.{List, _++_}
 use lib.ListN.{length, drop}
+use Rattle.basics.proofs.Lists.{entries-front}
 use Rattle.answer_forms.specs.Answer.{accepted}
 use Rattle.answer_forms.proofs.Composed.{second-accepted, answered}
 use Rattle.job_bytes.specs.Format.{jobArcs, jobMembers, arcOffset, memberOffset, parentAt, costAt, capAt, proposalAt, jobParents, jobCosts, jobCaps, jobProposals}
-use Rattle.job_bytes.proofs.Entries.{front}
 use Rattle.job_form.proofs.SameJob.{same-job}
 use Rattle.job.specs.JobCheck.{jobCheck}
 use Rattle.job.specs.Reader.{Lent, lent, roomCheck, readCheck, jobValue, jobAnswer, jobLists}
@@ -26,10 +26,11 @@ unfolding readCheck
 usable bytes l e =
     let room = roomCheck (length (l .parents)) (length (l .costs)) (length (l .caps)) (length (l .proposals)) in
     let ok = job-accepted bytes (second-accepted room (jobCheck bytes) e) in
-    let ps = front (jobArcs bytes) (parentAt bytes (arcOffset bytes)) (drop (jobArcs bytes) (l .parents)) in
-    let cs = front (jobArcs bytes) (costAt bytes (arcOffset bytes)) (drop (jobArcs bytes) (l .costs)) in
-    let ks = front (jobMembers bytes) (capAt bytes (memberOffset bytes)) (drop (jobMembers bytes) (l .caps)) in
-    let ss = front (jobMembers bytes) (proposalAt bytes (memberOffset bytes)) (drop (jobMembers bytes) (l .proposals)) in
+    let ps = entries-front (parentAt bytes (arcOffset bytes)) (jobArcs bytes) (drop (jobArcs bytes) (l .parents)) in
+    let cs = entries-front (costAt bytes (arcOffset bytes)) (jobArcs bytes) (drop (jobArcs bytes) (l .costs)) in
+    let ks = entries-front (capAt bytes (memberOffset bytes)) (jobMembers bytes) (drop (jobMembers bytes) (l .caps)) in
+    let ss =
+    entries-front (proposalAt bytes (memberOffset bytes)) (jobMembers bytes) (drop (jobMembers bytes) (l .proposals)) in
     rw (filled bytes l e)
     (record {
       tree = rw (ps, cs) (ok .tree);

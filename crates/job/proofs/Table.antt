@@ -1,8 +1,9 @@
 -- The table, by evaluation.
 use mathlib.Core.Path.{refl}
+use Rattle.basics.specs.Sum.{entries}
 use Rattle.game.specs.Tree.{hasChild}
 use Rattle.answers.specs.Checks.{arcsCheck, treeCheck, rangeCheck}
-use Rattle.job_bytes.specs.Numbers.{littleEndian, entries}
+use Rattle.job_bytes.specs.Numbers.{littleEndian}
 use Rattle.numbers.specs.Signed.{signed64}
 use Rattle.job_bytes.specs.Format.{arcOffset, memberOffset, jobArcs, jobMembers, version}
 use Rattle.job_form.specs.Form.{formCheck, fillersFrom}

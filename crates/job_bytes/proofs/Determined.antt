@@ -1,5 +1,5 @@
 -- A number determines its bytes, and so a row's values determine the row.
-use Prim.Native.Nat.{ℕ, zero, suc, pred, _+_, _*_, _-_, _^_, _<_, _≤_}
+use Prim.Native.Nat.{ℕ, zero, suc, _+_, _*_, _-_, _^_, _<_, _≤_}
 use mathlib.Core.Path.{_≡_, sym, _∙_}
 use mathlib.Core.List.{List}
 use native.Mathlib.Nat.{add-zero, pow-succ'}
@@ -9,16 +9,16 @@ use native.Mathlib.Omega.{arith}
 use lib.ListN.{length, take}
 use lib.Seq.{take-suc}
 use lib.IntN.{pos, negsuc}
-use Rattle.basics.proofs.Lists.{list-at}
+use Rattle.basics.specs.Sum.{entries}
+use Rattle.basics.proofs.Lists.{entries-at}
 use Rattle.numbers.specs.Signed.{signed64}
 use Rattle.numbers.proofs.TwosComplement.{lower, upper}
-use Rattle.job_bytes.specs.Numbers.{byteAt, littleEndian, entries, Bytes}
+use Rattle.job_bytes.specs.Numbers.{byteAt, littleEndian, Bytes}
 use Rattle.job_bytes.specs.Format.{parentAt, fillerAt, costAt, capAt, proposalAt}
 
 -- two lists with the same entries below n
 pub same-entries : {A : Type 0} (n : ℕ) (f g : ℕ → A) (d : A) → entries n f ≡ entries n g → (i : ℕ) → i < n → f i ≡ g i
-unfolding entries
-same-entries n f g d e i h = sym (list-at (λ u. f (pred u)) d n i h) ∙ rw e (list-at (λ u. g (pred u)) d n i h)
+same-entries n f g d e i h = sym (entries-at f d n i h) ∙ rw e (entries-at g d n i h)
 
 number-small : (bytes : List ℕ) → Bytes bytes → (width at : ℕ) → littleEndian bytes at width < 256 ^ width
 unfolding littleEndian

@@ -1,24 +1,20 @@
--- Lists given entry by entry, and a loop that writes one into the front of another list.
-use Prim.Native.Nat.{ℕ, suc, pred, _+_, _-_, _<_, _≤_}
+-- A loop that writes a list given entry by entry into the front of another list.
+use Prim.Native.Nat.{ℕ, suc, _+_, _<_, _≤_}
 use mathlib.Core.Path.{_≡_, refl, sym, ap, _∙_}
 use mathlib.Core.List.{List, _++_}
 use native.Mathlib.Numerals.{add-one}
 use native.Mathlib.Omega.{arith}
-use lib.ListN.{length, getD, set, take, drop, length-set}
+use lib.ListN.{length, getD, set, drop, length-set}
 use lib.Seq.{drop-cons, set-at, append-snoc}
-use Rattle.basics.proofs.Lists.{list-length, list-front, list-part}
-use Rattle.job_bytes.specs.Numbers.{entries}
+use Rattle.basics.specs.Sum.{entries}
+use Rattle.basics.proofs.Lists.{entries-length}
 
 module _ {A : Type 0} where
-  pub length-entries : (n : ℕ) (f : ℕ → A) → length (entries n f) ≡ n
-  unfolding entries
-  length-entries n f = list-length (λ u. f (pred u)) n
-
   -- one entry more
   entries-on : (i : ℕ) (f : ℕ → A) (l : List A) (v : A) → i < length l → v ≡ f i → set (entries i f ++ drop i l) i v ≡ entries (i + 1) f ++ drop (i + 1) l
   unfolding entries
   entries-on i f l v h e =
-      rw (add-one i, drop-cons l i v h, set-at (entries i f) (getD l i v) (drop (suc i) l) v i (length-entries i f), e)
+      rw (add-one i, drop-cons l i v h, set-at (entries i f) (getD l i v) (drop (suc i) l) v i (entries-length f i), e)
       (sym (append-snoc (entries i f) (f i) (drop (suc i) l)))
 
   -- of n entries of f the first i stand in the front of what was `before`
@@ -43,12 +39,3 @@ module _ {A : Type 0} where
 
       pub front-end : n ≤ i → list ≡ entries n f ++ drop n before
       front-end h = let end : i ≡ n = omega (arith, s .within) in rw end at (s .is)
-
-  -- the front of a list that starts with n entries of f, and as a part that the code takes
-  pub front : (n : ℕ) (f : ℕ → A) (rest : List A) → take n (entries n f ++ rest) ≡ entries n f
-  unfolding entries
-  front n f rest = list-front (λ u. f (pred u)) n rest
-
-  pub front-taken : (n : ℕ) (f : ℕ → A) (rest : List A) {list : List A} → list ≡ entries n f ++ rest → take (n - 0) list ≡ entries n f
-  unfolding entries
-  front-taken n f rest e = list-part (λ u. f (pred u)) n rest e

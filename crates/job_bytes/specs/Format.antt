@@ -4,8 +4,9 @@ use mathlib.Core.Path.{_≡_}
 use mathlib.Core.List.{List}
 use lib.ListN.{length, take}
 use lib.IntN.{ℤ}
+use Rattle.basics.specs.Sum.{entries}
 use Rattle.numbers.specs.Signed.{signed64}
-use Rattle.job_bytes.specs.Numbers.{byteAt, littleEndian, entries}
+use Rattle.job_bytes.specs.Numbers.{byteAt, littleEndian}
 
 -- the trailer: the last 16 bytes
 abbrev pub trailerAt : List ℕ → ℕ

@@ -1,8 +1,7 @@
--- Numbers in bytes, and lists given entry by entry.
-use Prim.Native.Nat.{ℕ, zero, suc, pred, _+_, _*_, _<_}
+-- Numbers in bytes.
+use Prim.Native.Nat.{ℕ, zero, suc, _+_, _*_, _<_}
 use mathlib.Core.List.{List}
 use lib.ListN.{getD}
-use Rattle.basics.specs.Sum.{list}
 
 -- the byte at a place
 abbrev pub byteAt : List ℕ → ℕ → ℕ
@@ -12,10 +11,6 @@ byteAt bytes at = getD bytes at 0
 unfoldable pub littleEndian : List ℕ → ℕ → ℕ → ℕ
 littleEndian bytes at zero = 0
 littleEndian bytes at (suc width) = byteAt bytes at + 256 * littleEndian bytes (at + 1) width
-
--- the list f 0, f 1, .., f (n - 1)
-unfoldable pub entries : {A : Type 0} → ℕ → (ℕ → A) → List A
-entries n f = list n (λ i. f (pred i))
 
 -- each entry is a byte
 abbrev pub Bytes : List ℕ → Type 0

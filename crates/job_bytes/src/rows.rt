@@ -4,7 +4,7 @@ ghost use mathlib.Core.Path.{_≡_};
 ghost use mathlib.Core.List.{_++_};
 ghost use Prim.Native.Nat.{_+_, _*_, _≤_};
 ghost use lib.ListN.{length, drop};
-ghost use Rattle.job_bytes.specs.Numbers.{entries};
+ghost use Rattle.basics.specs.Sum.{entries};
 ghost use Rattle.job_bytes.specs.Format.{parentAt, costAt, capAt, proposalAt};
 
 // The parents of the arc rows at an offset.

@@ -9,11 +9,12 @@ use lib.ListN.{length, take}
 use lib.Seq.{take-length, length-take-le}
 use lib.IntN.{pos}
 use lib.Dec.{eqb}
+use Rattle.basics.specs.Sum.{entries}
+use Rattle.basics.proofs.Lists.{entries-length}
 use Rattle.answer_forms.specs.Answer.{accepted, fault}
 use Rattle.answer_forms.proofs.Composed.{first-accepted, second-accepted, no-fault}
-use Rattle.job_bytes.specs.Numbers.{littleEndian, Bytes, entries}
+use Rattle.job_bytes.specs.Numbers.{littleEndian, Bytes}
 use Rattle.job_bytes.specs.Format.{trailerAt, arcOffset, memberOffset, jobArcs, jobMembers, version, fillerAt, parentAt, costAt, capAt, proposalAt, jobNote, Alike}
-use Rattle.job_bytes.proofs.Entries.{length-entries}
 use Rattle.job_bytes.proofs.Determined.{Same, same-number, same-arcs, same-members, same-entries}
 use Rattle.job_form.specs.Inner.{Layout}
 use Rattle.job_form.specs.Form.{formCheck, fillersFrom, fillersCheck}
@@ -52,10 +53,16 @@ module _ (a b : List ℕ) (fa : Formed a) (fb : Formed b) (alike-values : Alike 
   offsets = sym (note-length a la) ∙ ap length (alike-values .notes) ∙ note-length b lb
 
   arcs : jobArcs a ≡ jobArcs b
-  arcs = sym (length-entries (jobArcs a) (parentAt a (arcOffset a))) ∙ ap length (alike-values .parents) ∙ length-entries (jobArcs b) (parentAt b (arcOffset b))
+  arcs =
+      sym (entries-length (parentAt a (arcOffset a)) (jobArcs a))
+      ∙ ap length (alike-values .parents)
+      ∙ entries-length (parentAt b (arcOffset b)) (jobArcs b)
 
   members : jobMembers a ≡ jobMembers b
-  members = sym (length-entries (jobMembers a) (capAt a (memberOffset a))) ∙ ap length (alike-values .caps) ∙ length-entries (jobMembers b) (capAt b (memberOffset b))
+  members =
+      sym (entries-length (capAt a (memberOffset a)) (jobMembers a))
+      ∙ ap length (alike-values .caps)
+      ∙ entries-length (capAt b (memberOffset b)) (jobMembers b)
 
   rows : memberOffset a ≡ memberOffset b
   rows = omega (arith, la .arcs-end, lb .arcs-end, offsets, arcs)

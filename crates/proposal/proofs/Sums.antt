@@ -1,5 +1,5 @@
 -- An accepted proposal: each share is within its range, and so are the sums of the shares' parts.
-use Prim.Native.Nat.{ℕ, pred, _+_, _≤_}
+use Prim.Native.Nat.{ℕ, _+_, _≤_}
 use mathlib.Core.Path.{_≡_, refl}
 use mathlib.Core.List.{List}
 use native.Mathlib.Nat.{le-trans}
@@ -7,10 +7,10 @@ use native.Mathlib.Numerals.{add-one}
 use native.Mathlib.Omega.{arith}
 use borrow.Author.Tests.{ltb-false}
 use lib.IntN.{ℤ, pos, negsuc, natAbs}
-use Rattle.basics.specs.Sum.{sum}
+use Rattle.basics.specs.Sum.{sum₀}
 use Rattle.game.specs.Proposal.{share}
 use Rattle.basics.specs.Integer.{plus, minus}
-use Rattle.basics.proofs.Sums.{sum-bound}
+use Rattle.basics.proofs.Sums.{sum₀-bound}
 use Rattle.answer_forms.specs.Answer.{accepted}
 use Rattle.answers.specs.Checks.{proposalCheck, outsideShare}
 use Rattle.limits.specs.Limits.{mostShare, mostArcs}
@@ -32,7 +32,7 @@ minus-size (negsuc a) = omega arith
 
 -- the sum of one part of the first n shares
 abbrev pub partSum : (ℤ → ℕ) → List ℤ → ℕ → ℕ
-partSum part l n = sum n (λ i. part (share l (pred i)))
+partSum part l n = sum₀ n (λ i. part (share l i))
 
 module _ (part : ℤ → ℕ) (l : List ℤ) where
   pub sum-next : (n : ℕ) {s x : ℕ} → s ≡ partSum part l n → x ≡ part (share l n) → s + x ≡ partSum part l (n + 1)
@@ -43,6 +43,6 @@ module _ (part : ℤ → ℕ) (l : List ℤ) where
   sum-most members size checked n h =
       omega (
         arith,
-        sum-bound n mostShare {f = λ i. part (share l (pred i))}
-            (λ i within. le-trans (size (share l (pred i))) (share-most members l checked (pred i))),
+        sum₀-bound n mostShare {f = λ i. part (share l i)}
+            (λ i within. le-trans (size (share l i)) (share-most members l checked i)),
       )

@@ -1,5 +1,5 @@
 -- The lists after a job was read, and the report that they make.
-use Prim.Native.Nat.{ℕ, pred, _-_, _≤_}
+use Prim.Native.Nat.{ℕ, _-_, _≤_}
 use mathlib.Core.Path.{_≡_, refl, sym, ap, _∙_}
 use mathlib.Core.List.{List, _++_}
 use native.Mathlib.Omega.{arith}
@@ -8,12 +8,12 @@ use lib.ListN.{length, take, length-append}
 use lib.Seq.{length-take-le}
 use Rattle.limits.specs.Limits.{mostArcs}
 use Rattle.game.specs.Network.{memberCount}
-use Rattle.basics.proofs.Lists.{list-length, list-part}
+use Rattle.basics.specs.Sum.{entries}
+use Rattle.basics.proofs.Lists.{entries-length, entries-part}
 use Rattle.game.specs.Tree.{treeOf, networkOf}
 use Rattle.answer_forms.specs.Answer.{Check, accepted, value, refusal, written}
 use Rattle.answers.specs.Checks.{treeCheck}
 use Rattle.answer_forms.proofs.Composed.{answered, refused-answer}
-use Rattle.job_bytes.specs.Numbers.{entries}
 use Rattle.job_bytes.specs.Format.{jobParents, jobCosts, jobCaps, jobProposals}
 use Rattle.job.specs.JobCheck.{jobCheck}
 use Rattle.job.specs.Reader.{Lent, JobValue, readCheck, jobValue, jobAnswer, jobLists}
@@ -30,12 +30,11 @@ pub record Front {A : Type 0} (n : ℕ) (values list : List A) : Type 0 where
 module _ {A : Type 0} where
   front : (n : ℕ) (f : ℕ → A) (before rest : List A) {check : Check} {list : List A} → check ≡ accepted → list ≡ written check before (entries n f ++ rest)
       → Front n (entries n f) list
-  unfolding entries
   front n f before rest accept e =
       rw (e, accept)
       (record {
-        room = omega (arith, length-append (entries n f) rest, list-length (λ i. f (pred i)) n);
-        taken = list-part (λ i. f (pred i)) n rest refl;
+        room = omega (arith, length-append (entries n f) rest, entries-length f n);
+        taken = entries-part f n rest refl;
       })
 
 -- the fronts of the lists hold the values of an accepted job, and the engine's checks find nothing in them

@@ -3,7 +3,7 @@ use mathlib.Core.Path.{refl}
 use Rattle.game.specs.Network.{climb, used, groupCost, sumBelow, wholeCost, membersTo}
 use Rattle.game.specs.Tree.{hasChild}
 use Rattle.basics.specs.Bit.{bit}
-use Rattle.basics.specs.Sum.{size}
+use Rattle.basics.specs.Sum.{size, entries}
 use Rattle.game.specs.Group.{wordsOf}
 use Rattle.game.specs.Proposal.{pays}
 use Rattle.game.specs.Search.{groups, best, named}
@@ -13,7 +13,7 @@ use Rattle.answers.specs.Checks.{arcsCheck, treeCheck, rangeCheck}
 use Rattle.answers.specs.Audit.{verdict, auditAnswer, auditWords}
 use Rattle.answers.specs.Level.{shortArc, levelAnswer, levelList}
 use Rattle.answers.specs.ByArc.{byArcList}
-use Rattle.job_bytes.specs.Numbers.{littleEndian, entries}
+use Rattle.job_bytes.specs.Numbers.{littleEndian}
 use Rattle.numbers.specs.Signed.{signed64}
 use Rattle.job_bytes.specs.Format.{arcOffset, memberOffset, jobArcs, jobMembers, version}
 use Rattle.job_form.specs.Form.{formCheck, fillersFrom}

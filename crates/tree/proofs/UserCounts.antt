@@ -1,5 +1,5 @@
 -- The cap sums where every cap is 1 are the numbers of users.
-use Prim.Native.Nat.{ℕ, pred, _-_}
+use Prim.Native.Nat.{ℕ}
 use mathlib.Core.Path.{_≡_, sym, ap, _∙_, fun-ext}
 use mathlib.Core.List.{List, []}
 use native.Mathlib.Decide.{decLt}
@@ -10,7 +10,7 @@ use Rattle.game.specs.Network.{memberCount}
 use Rattle.game.specs.Tree.{networkOf}
 use Rattle.game.specs.Core.{users}
 use Rattle.game.specs.ByArc.{userCount}
-use Rattle.basics.proofs.Sums.{sum-cong}
+use Rattle.basics.proofs.Sums.{sum₀-cong}
 use Rattle.game.proofs.Core.{users-by-vertex}
 use Rattle.tree.specs.Passes.{Capped}
 use Rattle.answers.specs.Level.{capSum}
@@ -39,4 +39,4 @@ module _ {ones : List ℕ} {k : ℕ} (are : ones ≡ replicate k 1) where
       (fun-ext
       (λ a.
       sym (users-by-vertex n (λ j. getD (replicate (memberCount n) 1) j 0) a)
-      ∙ sum-cong (memberCount n) (λ i h. ap (pick (users n a (pred i))) (getD-replicate {A = ℕ} (memberCount n) (pred i) 1 0 (omega (arith, h .low, h .high)))))))
+      ∙ sum₀-cong (memberCount n) (λ j h. ap (pick (users n a j)) (getD-replicate {A = ℕ} (memberCount n) j 1 0 h)))))

@@ -7,13 +7,13 @@ use borrow.Author.Tests.{eq-eqb}
 use lib.ListN.{length, getD, take, drop}
 use lib.Seq.{drop-cons}
 use lib.Dec.{eqb}
-use Rattle.basics.specs.Sum.{pick, sum, list}
+use Rattle.basics.specs.Sum.{pick, list, sum₀}
 use Rattle.game.specs.Network.{Network, atOrBelow, memberCount, members}
 use Rattle.game.specs.Tree.{treeOf, networkOf, ofArc}
 use Rattle.game.specs.Core.{users}
 use Rattle.game.specs.ByArc.{userCount}
 use Rattle.basics.proofs.Bools.{pick-yes}
-use Rattle.basics.proofs.Sums.{In, sum-cong, sum-at, sum-longer, term-le, count-le}
+use Rattle.basics.proofs.Sums.{In, sum-cong, sum-longer, count-le, sum₀-is, sum₀-cong, sum₀-at, term₀-le}
 use Rattle.basics.proofs.Sizes.{size-le}
 use Rattle.basics.proofs.Lists.{list-length, list-at}
 use Rattle.game.proofs.ArcEntries.{of-list}
@@ -38,8 +38,9 @@ part-total g l (suc c) a h =
     rw (e, drop-cons l a 0 (omega arith)) (omega (arith, part-total g l c (suc a) (omega arith)))
 
 -- two terms are part of a sum
-two-terms : (m a b : ℕ) (f : ℕ → ℕ) → 0 < a → a ≤ b → suc b ≤ m → f a + f (suc b) ≤ sum m f
-two-terms m a b f low less high = omega (arith, term-le b a f (omega arith), sum-longer (suc b) m f high)
+two-terms : (n i j : ℕ) (f : ℕ → ℕ) → i < j → j < n → f i + f j ≤ sum₀ n f
+two-terms n i j f less high =
+    omega (arith, term₀-le j i f less, sum₀-is j f, sum₀-is n f, sum-longer (suc j) n (λ k. f (pred k)) high)
 
 -- the numbers of users as they are handed in
 pub user-counts : (ps : List ℕ) → Sound ps → {counts : List ℕ} → counts ≡ list (length ps) (userCount (networkOf ps [])) → Counts (length ps) counts
@@ -83,14 +84,8 @@ module _ (ps counts starts : List ℕ) (sound : Sound ps) (counted : counts ≡ 
 
   module _ {vertices : List ℕ} (are : vertices ≡ members net) where
     -- the members' places are those below their number
-    slots : (g : ℕ → ℕ) → sum (memberCount net) (λ i. g (slot vertices starts (pred i))) ≡ before g (memberCount net)
+    slots : (g : ℕ → ℕ) → sum₀ (memberCount net) (λ j. g (slot vertices starts j)) ≡ before g (memberCount net)
     slots g = rw are (over-members net (λ v. g (ofArc starts v)) ∙ all-filled net (ofArc starts) (sound .rising) begins (members-end (treeOf ps [])) g)
-
-    -- one of the places below the number of members is s
-    single : (s : ℕ) → s < memberCount net → before (λ t. pick (eqb (suc s) (suc t)) 1) (memberCount net) ≡ 1
-    single s h =
-        sum-cong (memberCount net) (λ i j. let e : suc (pred i) ≡ i = omega arith in ap (λ (t : ℕ). pick (eqb (suc s) t) 1) e)
-        ∙ sum-at (memberCount net) (suc s) (λ t. 1) (omega arith)
 
     slot-within : (j : ℕ) → j < length vertices → slot vertices starts j < memberCount net
     slot-within j h =
@@ -107,14 +102,14 @@ module _ (ps counts starts : List ℕ) (sound : Sound ps) (counted : counts ≡ 
     slots-apart : (i j : ℕ) → i < j → j < length vertices → slot vertices starts i ≡ slot vertices starts j → ⊥
     slots-apart i j less h e =
         let s : ℕ → ℕ = slot vertices starts in
-        let g : ℕ → ℕ = λ t. pick (eqb (suc (s j)) (suc t)) 1 in
+        let g : ℕ → ℕ = λ t. pick (eqb (s j) t) 1 in
         omega (
           arith,
-          two-terms (memberCount net) (suc i) j (λ u. g (s (pred u))) (omega arith) (omega arith) (omega (arith, vertices-count ps vertices are)),
+          two-terms (memberCount net) i j (λ u. g (s u)) less (omega (arith, vertices-count ps vertices are)),
           slots g,
-          single (s j) (slot-within j h),
-          pick-yes 1 (eq-eqb (suc (s j)) (suc (s i)) (ap suc (sym e))),
-          pick-yes 1 (eq-eqb (suc (s j)) (suc (s j)) refl),
+          sum₀-at (memberCount net) (s j) (λ t. 1) (slot-within j h),
+          pick-yes 1 (eq-eqb (s j) (s i) (sym e)),
+          pick-yes 1 (eq-eqb (s j) (s j) refl),
         )
 
     pub members-apart : Apart vertices starts
@@ -133,14 +128,14 @@ module _ (ps counts starts : List ℕ) (sound : Sound ps) (counted : counts ≡ 
 
       -- what stands at the users' places are their numbers
       at-slots : (g : ℕ → ℕ) (k : ℕ)
-          → sum (memberCount net) (λ i. pick (users net k (pred i)) (g (getD order (ofArc starts (vertex net (pred i))) 0)))
-          ≡ sum (memberCount net) (λ i. pick (users net k (pred i)) (g (pred i)))
+          → sum₀ (memberCount net) (λ j. pick (users net k j) (g (getD order (ofArc starts (vertex net j)) 0)))
+          ≡ sum₀ (memberCount net) (λ j. pick (users net k j) (g j))
       at-slots g k =
-          sum-cong (memberCount net)
-          (λ i j.
-          ap (λ (u : ℕ). pick (users net k (pred i)) (g u))
-          (ap (λ (l : List ℕ). getD order (slot l starts (pred i)) 0) (sym are)
-          ∙ ordered .placed (pred i) (omega (arith, vertices-count ps vertices are))))
+          sum₀-cong (memberCount net)
+          (λ j h.
+          ap (λ (u : ℕ). pick (users net k j) (g u))
+          (ap (λ (l : List ℕ). getD order (slot l starts j) 0) (sym are)
+          ∙ ordered .placed j (omega (arith, vertices-count ps vertices are))))
 
       pub laid-out : LaidOut net starts counts order
       laid-out =

@@ -1,9 +1,9 @@
 -- Sums over the members and over an arc's users, by vertex; an arc's number of users from those of its child arcs.
-use Prim.Native.Nat.{ℕ, pred, _+_}
+use Prim.Native.Nat.{ℕ, _+_}
 use mathlib.Core.Path.{_≡_, sym, ap, _∙_, subst, fun-ext}
 use mathlib.Core.Bool.{true}
 use lib.ListN.{getD}
-use Rattle.basics.specs.Sum.{pick, sum, size}
+use Rattle.basics.specs.Sum.{pick, sum, sum₀, size}
 use Rattle.game.specs.Network.{Network, atOrBelow, sumBelow, number, memberCount, members}
 use Rattle.game.specs.Core.{users}
 use Rattle.game.specs.ByArc.{userCount}
@@ -25,12 +25,13 @@ module _ (n : Network) where
   at-number : (x : ℕ → ℕ) (v : ℕ) → In (n .arcs) v → pick (n .member v) (x (vertex (number n v))) ≡ pick (n .member v) (x v)
   at-number x v i = pick-same (n .member v) (λ m. ap x (member-at (n .member) (n .arcs) v i m))
 
-  pub over-members : (x : ℕ → ℕ) → sum (memberCount n) (λ i. x (vertex (pred i))) ≡ sum (n .arcs) (λ v. pick (n .member v) (x v))
+  pub over-members : (x : ℕ → ℕ)
+      → sum₀ (memberCount n) (λ j. x (vertex j)) ≡ sum (n .arcs) (λ v. pick (n .member v) (x v))
   over-members x =
       members-sum (n .arcs) (n .member) (λ j. x (vertex j)) ∙ sum-cong (n .arcs) (at-number x)
 
   pub over-users : (x : ℕ → ℕ) (k : ℕ)
-      → sum (memberCount n) (λ i. pick (users n k (pred i)) (x (vertex (pred i)))) ≡ sumBelow n (λ v. pick (n .member v) (x v)) k
+      → sum₀ (memberCount n) (λ j. pick (users n k j) (x (vertex j))) ≡ sumBelow n (λ v. pick (n .member v) (x v)) k
   unfolding sumBelow
   over-users x k =
       users-by-vertex n (λ j. x (vertex j)) k ∙ sum-cong (n .arcs) (λ v i. ap (pick (atOrBelow n k v)) (at-number x v i))

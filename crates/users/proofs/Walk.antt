@@ -1,12 +1,12 @@
 -- Where each arc's users begin in depth-first order: every arc's users, and all members, stand side by side.
-use Prim.Native.Nat.{ℕ, zero, suc, pred, _+_, _≤_}
+use Prim.Native.Nat.{ℕ, zero, suc, _+_, _≤_}
 use mathlib.Core.Path.{_≡_, refl, ap, _∙_}
 use mathlib.Core.Bool.{true, false}
 use mathlib.Core.Logic.{⊎-elim}
 use native.Mathlib.Omega.{arith}
 use borrow.Author.Tests.{eqb-true, eq-eqb}
 use lib.Dec.{eqb}
-use Rattle.basics.specs.Sum.{pick, sum}
+use Rattle.basics.specs.Sum.{pick, sum, sum₀}
 use Rattle.game.specs.Network.{Network, sumBelow, memberCount}
 use Rattle.game.specs.ByArc.{userCount}
 use Rattle.basics.proofs.Bools.{both, pick-yes, pick-no}
@@ -19,7 +19,7 @@ use Rattle.users.proofs.UserSums.{count-children, count-from-source, co
 
 -- g at the places before x
 abbrev pub before : (ℕ → ℕ) → ℕ → ℕ
-before g x = sum x (λ i. g (pred i))
+before g x = sum₀ x g
 
 module _ (n : Network) (start : ℕ → ℕ) where
   -- how many users those of the arcs 1 to i have that leave vertex p

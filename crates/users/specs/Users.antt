@@ -1,9 +1,9 @@
 -- A list of an arc's users, and the members laid out so that each arc's users stand side by side.
-use Prim.Native.Nat.{ℕ, pred, _+_, _≤_}
+use Prim.Native.Nat.{ℕ, _+_, _≤_}
 use mathlib.Core.Path.{_≡_}
 use mathlib.Core.List.{List, [], _∷_}
 use lib.ListN.{length, take, drop}
-use Rattle.basics.specs.Sum.{pick, sum}
+use Rattle.basics.specs.Sum.{pick, sum₀}
 use Rattle.game.specs.Network.{Network, memberCount}
 use Rattle.game.specs.Tree.{ofArc}
 use Rattle.game.specs.Core.{users}
@@ -15,7 +15,7 @@ total g (u ∷ us) = g u + total g us
 
 -- the list has the number of each user of arc k once, in any order: a sum over it is the sum over the users
 pub record Lists (n : Network) (k : ℕ) (us : List ℕ) : Type 0 where
-  pub sums : (g : ℕ → ℕ) → total g us ≡ sum (memberCount n) (λ i. pick (users n k (pred i)) (g (pred i)))
+  pub sums : (g : ℕ → ℕ) → total g us ≡ sum₀ (memberCount n) (λ j. pick (users n k j) (g j))
 
 -- `order` has one entry a member, the others one entry an arc; the users of arc k are the `counts` entry of k many numbers in `order` from the `starts` entry of k on
 pub record LaidOut (n : Network) (starts counts order : List ℕ) : Type 0 where

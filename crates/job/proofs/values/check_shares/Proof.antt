@@ -1,19 +1,19 @@
 use mathlib.Core.Path.{_≡_}
 use borrow.Author.Needs.{needs}
 use denote.Ref.{now}
+use Rattle.basics.specs.Sum.{entries}
+use Rattle.basics.proofs.Lists.{entries-part}
 use Rattle.answers.specs.Level.{capsCheck}
 use Rattle.answer_forms.specs.Checked.{checkOf}
 use Rattle.answer_forms.proofs.Opened.{opened}
-use Rattle.job_bytes.specs.Numbers.{entries}
 use Rattle.job_bytes.specs.Format.{capAt}
-use Rattle.job_bytes.proofs.Entries.{front-taken}
 use Rattle.job_form.proofs.Composed.{stopped, went-on}
 use Rattle.job.proofs.values.check_shares.Statement.{statement}
 use Rattle.job.proofs.values.check_shares.Tie as tie
 
 limits : (c : tie.After-check-caps) → checkOf (c .check-caps .result)
     ≡ capsCheck (c .before .before .before .before .before .before .before .args .members) (entries (c .before .before .before .before .before .before .before .args .members) (capAt (now (c .before .before .before .before .before .before .before .args .bytes)) (c .before .before .before .before .before .before .before .args .offset)))
-limits c = rw (front-taken _ _ _ (c .before .before .before .before .read-caps .ensures)) at (c .check-caps .ensures)
+limits c = rw (entries-part _ _ _ (c .before .before .before .before .read-caps .ensures)) at (c .check-caps .ensures)
 
 returns : tie.Need-returns
 returns c = stopped _ (limits (c .before .before)) (c .enum-told2 .given .1)
@@ -21,7 +21,8 @@ returns c = stopped _ (limits (c .before .before)) (c .enum-told2 .given .1)
 returns-2 : tie.Need-returns-2
 returns-2 c =
     went-on (opened (limits (c .before .before .before .before .before .before .before .before)) (c .before .before .before .before .before .before .enum-told .given .1))
-    (rw (front-taken _ _ _ (c .before .before .before .before .read-proposals .ensures)) at (c .check-proposal .ensures))
+    (rw (entries-part _ _ _ (c .before .before .before .before .read-proposals .ensures)) at
+    (c .check-proposal .ensures))
 
 pub check-shares-spec : {M : Type 1} → statement M
 check-shares-spec =

@@ -1,10 +1,15 @@
 use borrow.Author.Needs.{needs}
-use Rattle.job_bytes.proofs.Entries.{front-taken}
+use Rattle.basics.proofs.Lists.{entries-part}
 use Rattle.job.proofs.values.count_members.Statement.{statement}
 use Rattle.job.proofs.values.count_members.Tie as tie
 
 returns : tie.Need-returns
-returns c = rw (front-taken _ _ _ (c .before .before .before .before .before .before .before .before .before .read-parents .ensures), front-taken _ _ _ (c .before .before .before .before .before .before .read-costs .ensures)) at (c .count-members .ensures)
+returns c =
+    rw (
+      entries-part _ _ _
+          (c .before .before .before .before .before .before .before .before .before .read-parents .ensures),
+      entries-part _ _ _ (c .before .before .before .before .before .before .read-costs .ensures),
+    ) at (c .count-members .ensures)
 
 pub count-members-spec : {M : Type 1} → statement M
 count-members-spec =
