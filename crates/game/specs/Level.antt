@@ -1,16 +1,17 @@
 -- The level rule: each arc's amount is given out unit by unit to the user with the smallest share among those below their cap.
 -- Shares and caps are lists in member order.
-use Prim.Native.Nat.{ℕ, zero, suc, pred, _+_}
-use mathlib.Core.Bool.{Bool, cond, _&&_, _||_}
+use Prim.Native.Nat.{ℕ, zero, suc, _+_}
+use mathlib.Core.Bool.{Bool, cond, _&&_}
 use mathlib.Core.List.{List}
 use lib.ListN.{getD, set, replicate}
-use lib.Dec.{eqb, ltb}
+use lib.Dec.{ltb}
 use Rattle.game.specs.Network.{Network, memberCount}
 use Rattle.game.specs.Core.{users}
 
 -- member j after the choice c among the members before it: c is 0 for none, i + 1 for member i
 abbrev pub orKeep : (ℕ → Bool) → (ℕ → ℕ) → ℕ → ℕ → ℕ
-orKeep may x j c = cond (may j && (eqb c 0 || ltb (x j) (x (pred c)))) (suc j) c
+orKeep may x j zero = cond (may j) (suc j) 0
+orKeep may x j (suc i) = cond (may j && ltb (x j) (x i)) (suc j) (suc i)
 
 -- of the members below j that pass the test the one with the smallest x, the lowest number where several have it
 unfoldable pub firstLeast : (ℕ → Bool) → (ℕ → ℕ) → ℕ → ℕ
