@@ -7,7 +7,8 @@ use Rattle.game.specs.Tree.{Tree, network, ofArc}
 use Rattle.basics.proofs.Sums.{sum-bound, count-le}
 use Rattle.limits.specs.Limits.{mostCost, mostArcs}
 use Rattle.limits.specs.Inner.{mostWhole}
-use Rattle.answers.proofs.Accepted.{Accepted}
+use Rattle.answers.specs.Limits.{TreeLimits}
+use Rattle.answers.proofs.Accepted.{Accepted, tree-accepted}
 
 module _ (t : Tree) (ok : Accepted t) where
   pub whole-bound : wholeCost (network t) ≤ mostWhole
@@ -16,3 +17,6 @@ module _ (t : Tree) (ok : Accepted t) where
 
   pub members-bound : memberCount (network t) ≤ mostArcs
   members-bound = omega (arith, count-le (network t .arcs) (network t .member), ok .few)
+
+pub tree-limits : TreeLimits
+tree-limits t e = let ok = tree-accepted t e in record { arcs = ok .few; members = members-bound t ok }

@@ -5,6 +5,7 @@ pub mod GroupCost
 pub mod Audit
 pub mod Level
 pub mod ByArc
+pub mod Limits
 pub mod Laws
 pub mod AuditLaws
 pub mod CoreLaws

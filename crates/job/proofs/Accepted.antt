@@ -11,8 +11,7 @@ use Rattle.limits.specs.Limits.{mostArcs}
 use Rattle.answers.specs.Checks.{treeCheck, proposalCheck}
 use Rattle.answers.specs.Level.{capsCheck}
 use Rattle.answer_forms.proofs.Composed.{first-accepted, second-accepted, no-fault}
-use Rattle.answers.proofs.Accepted.{tree-accepted}
-use Rattle.answers.proofs.Limits.{members-bound}
+use Rattle.answers.proofs.Limits.{tree-limits}
 use Rattle.job_bytes.specs.Format.{arcOffset, jobArcs, jobMembers, parentAt, jobCaps, jobProposals}
 use Rattle.job_form.specs.Form.{formCheck, fillersCheck}
 use Rattle.job_form.proofs.FormAccepted.{alike}
@@ -54,9 +53,9 @@ module _ (bytes : List ℕ) (ok : JobAccepted bytes) where
   few-arcs =
       omega (
         arith,
-        tree-accepted (jobTree bytes) (ok .tree) .few,
+        tree-limits (jobTree bytes) (ok .tree) .arcs,
         entries-length (parentAt bytes (arcOffset bytes)) (jobArcs bytes),
       )
 
   pub few-members : jobMembers bytes ≤ mostArcs
-  few-members = omega (arith, members-bound (jobTree bytes) (tree-accepted (jobTree bytes) (ok .tree)), ok .rows)
+  few-members = omega (arith, tree-limits (jobTree bytes) (ok .tree) .members, ok .rows)

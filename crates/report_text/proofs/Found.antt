@@ -14,15 +14,14 @@ use Rattle.answer_forms.specs.Answer.{accepted, value}
 use Rattle.answers.specs.Checks.{treeCheck, lengthCheck}
 use Rattle.answers.specs.Members.{membersList}
 use Rattle.answers.specs.Needs.{needsAnswer}
-use Rattle.answers.proofs.Accepted.{tree-accepted}
-use Rattle.answers.proofs.Limits.{members-bound}
+use Rattle.answers.proofs.Limits.{tree-limits}
 
 exact : (wanted found : ℕ) → found ≡ wanted → lengthCheck wanted found ≡ accepted
 exact wanted found e = rw (eq-eqb found wanted e)
 
 -- a list with an entry a member is within 1,023
 pub few-members : (t : Tree) (n : ℕ) → treeCheck t ≡ accepted → n ≡ memberCount (network t) → n ≤ mostArcs
-few-members t n tree e = rw e (members-bound t (tree-accepted t tree))
+few-members t n tree e = rw e (tree-limits t tree .members)
 
 module _ (t : Tree) (tree : treeCheck t ≡ accepted) (out : List ℕ) where
   pub needs-found : length out ≡ length (t .parents) → needsAnswer t out ≡ value (record { whole = wholeCost (network t); members = memberCount (network t) })

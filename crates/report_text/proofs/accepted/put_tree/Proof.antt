@@ -1,7 +1,7 @@
 use native.Mathlib.Omega.{arith}
 use Rattle.limits.specs.Limits.{mostArcs}
 use Rattle.basics.proofs.Lists.{zeros-length}
-use Rattle.answers.proofs.Accepted.{tree-accepted}
+use Rattle.answers.proofs.Limits.{tree-limits}
 use Rattle.report_text.proofs.Found.{few-members}
 use Rattle.report_text.proofs.Joined.{tree-joined}
 use borrow.Author.Needs.{needs}
@@ -9,12 +9,12 @@ use Rattle.report_text.proofs.accepted.put_tree.Statement.{statement}
 use Rattle.report_text.proofs.accepted.put_tree.Tie as tie
 
 part-needs-end : tie.Need-part-needs-end
-part-needs-end c = omega (arith, tree-accepted _ (c .before .before .before .pre .0) .few)
+part-needs-end c = omega (arith, tree-limits _ (c .before .before .before .pre .0) .arcs)
 
 put-cost-requires : tie.Need-put-cost-requires
 put-cost-requires c κs =
     let start = c .before .before .before .before .before in
-    (start .pre .0, (zeros-length mostArcs _ (tree-accepted _ (start .pre .0) .few), omega (arith, start .pre)))
+    (start .pre .0, (zeros-length mostArcs _ (tree-limits _ (start .pre .0) .arcs), omega (arith, start .pre)))
 
 put-audit-requires : tie.Need-put-audit-requires
 put-audit-requires c κs =
