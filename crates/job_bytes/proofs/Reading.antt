@@ -22,7 +22,8 @@ module _ (bytes : List ℕ) (at width : ℕ) where
   module _ {i n : ℕ} (s : Reading i n) where
     -- there is room for one byte more
     pub reading-room : 0 < i → width ≤ 8 → n < 72057594037927936
-    reading-room h w = omega (arith, s .small, pow-le-pow-right {n = 256} (omega arith) {i = width - i} {j = 7} (omega arith))
+    reading-room h w =
+        omega (arith, s .small, pow-le-pow-right {n = 256} (omega arith) {i = width - i} {j = 7} (omega arith))
 
     pub reading-on : 0 < i → (b : ℕ) → b ≡ byteAt bytes (at + (i - 1)) → b < 256 → Reading (i - 1) (n * 256 + b)
     unfolding littleEndian

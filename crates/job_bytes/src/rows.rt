@@ -11,7 +11,8 @@ ghost use Rattle.job_bytes.specs.Format.{parentAt, costAt, capAt, propos
 pub fn read_parents(bytes: &[u8], offset: usize, arcs: usize, out: &mut [u16])
     requires { ⌜ offset + 8 * arcs ≤ length (now bytes) ⌝ }
     requires { ⌜ arcs ≤ length (now out) ⌝ }
-    ensures { λ _. ⌜ now (out .exit) ≡ entries arcs (parentAt (now (bytes .entry)) offset) ++ drop arcs (now (out .entry)) ⌝ }
+    ensures { λ _. ⌜ now (out .exit)
+        ≡ entries arcs (parentAt (now (bytes .entry)) offset) ++ drop arcs (now (out .entry)) ⌝ }
 {
     let mut i = 0;
     while i < arcs {
@@ -24,7 +25,8 @@ pub fn read_parents(bytes: &[u8], offset: usize, arcs: usize, out: &mut [u16])
 pub fn read_costs(bytes: &[u8], offset: usize, arcs: usize, out: &mut [u32])
     requires { ⌜ offset + 8 * arcs ≤ length (now bytes) ⌝ }
     requires { ⌜ arcs ≤ length (now out) ⌝ }
-    ensures { λ _. ⌜ now (out .exit) ≡ entries arcs (costAt (now (bytes .entry)) offset) ++ drop arcs (now (out .entry)) ⌝ }
+    ensures { λ _. ⌜ now (out .exit)
+        ≡ entries arcs (costAt (now (bytes .entry)) offset) ++ drop arcs (now (out .entry)) ⌝ }
 {
     let mut i = 0;
     while i < arcs {
@@ -37,7 +39,8 @@ pub fn read_costs(bytes: &[u8], offset: usize, arcs: usize, out: &mut [u32])
 pub fn read_caps(bytes: &[u8], offset: usize, members: usize, out: &mut [u64])
     requires { ⌜ offset + 16 * members ≤ length (now bytes) ⌝ }
     requires { ⌜ members ≤ length (now out) ⌝ }
-    ensures { λ _. ⌜ now (out .exit) ≡ entries members (capAt (now (bytes .entry)) offset) ++ drop members (now (out .entry)) ⌝ }
+    ensures { λ _. ⌜ now (out .exit)
+        ≡ entries members (capAt (now (bytes .entry)) offset) ++ drop members (now (out .entry)) ⌝ }
 {
     let mut j = 0;
     while j < members {
@@ -50,7 +53,8 @@ pub fn read_caps(bytes: &[u8], offset: usize, members: usize, out: &mut [u64])
 pub fn read_proposals(bytes: &[u8], offset: usize, members: usize, out: &mut [i64])
     requires { ⌜ offset + 16 * members ≤ length (now bytes) ⌝ }
     requires { ⌜ members ≤ length (now out) ⌝ }
-    ensures { λ _. ⌜ now (out .exit) ≡ entries members (proposalAt (now (bytes .entry)) offset) ++ drop members (now (out .entry)) ⌝ }
+    ensures { λ _. ⌜ now (out .exit)
+        ≡ entries members (proposalAt (now (bytes .entry)) offset) ++ drop members (now (out .entry)) ⌝ }
 {
     let mut j = 0;
     while j < members {

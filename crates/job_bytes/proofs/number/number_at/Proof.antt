@@ -1,4 +1,5 @@
 -- What is read so far is the number of the bytes from byte i on; the measure is i.
+use Prim.Native.Nat.{_<_}
 use native.Mathlib.Omega.{arith}
 use borrow.Author.Needs.{needs}
 use Rattle.job_bytes.proofs.Reading.{Reading, reading-start, reading-room, reading-on, reading-end}
@@ -14,13 +15,15 @@ abbrev μ-loop : tie.MeasureT-loop
 loop-holds : tie.Need-loop-holds Inv-loop μ-loop
 loop-holds c = reading-start _ _ _
 
+-- there is room for one byte more
+room : (c : tie.In-loop Inv-loop μ-loop) → c .before .loop .n < 72057594037927936
+room c = reading-room _ _ _ (c .before .loop .inv) (c .loop-test .taken) (c .before .before .before .pre .0)
+
 mul-n : tie.Need-mul-n Inv-loop μ-loop
-mul-n c = omega (arith, reading-room _ _ _ (c .before .loop .inv) (c .loop-test .taken) (c .before .before .before .pre .0))
+mul-n c = omega (arith, room c)
 
 add-n : tie.Need-add-n Inv-loop μ-loop
-add-n c =
-    let turn = c .before .before in
-    omega (arith, reading-room _ _ _ (turn .before .loop .inv) (turn .loop-test .taken) (turn .before .before .before .pre .0), c .wide .ensures .1)
+add-n c = omega (arith, room (c .before .before), c .wide .ensures .1)
 
 loop-again : tie.Need-loop-again Inv-loop μ-loop
 loop-again c =

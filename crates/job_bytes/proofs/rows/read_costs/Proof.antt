@@ -16,7 +16,10 @@ loop-holds : tie.Need-loop-holds Inv-loop μ-loop
 loop-holds c = front-start _ _ _
 
 loop-again : tie.Need-loop-again Inv-loop μ-loop
-loop-again c = front-on _ _ _ (c .before .before .loop .inv) (c .before .loop-test .taken) (c .before .before .before .before .before .pre .1) _ (c .number-at .ensures .0)
+loop-again c =
+    let turn = c .before in
+    let start = turn .before .before .before .before in
+    front-on _ _ _ (turn .before .loop .inv) (turn .loop-test .taken) (start .pre .1) _ (c .number-at .ensures .0)
 
 returns : tie.Need-returns Inv-loop μ-loop
 returns c = front-end _ _ _ (c .before .loop .inv) (c .loop-test .left)

@@ -21,8 +21,11 @@ loop-holds c = front-start _ _ _
 
 loop-again : tie.Need-loop-again Inv-loop μ-loop
 loop-again c =
-    front-on _ _ _ (c .before .before .before .loop .inv) (c .before .before .loop-test .taken) (c .before .before .before .before .before .pre .1) _
-    (toZ-ofZ {w = w64} (record { sfits = c .of-bits .ok }) ∙ c .of-bits .ensures ∙ ap signed64 (c .before .number-at .ensures .0))
+    let turn = c .before .before in
+    let start = turn .before .before .before in
+    let bits = ap signed64 (c .before .number-at .ensures .0) in
+    front-on _ _ _ (turn .before .loop .inv) (turn .loop-test .taken) (start .pre .1) _
+    (toZ-ofZ {w = w64} (record { sfits = c .of-bits .ok }) ∙ c .of-bits .ensures ∙ bits)
 
 returns : tie.Need-returns Inv-loop μ-loop
 returns c = front-end _ _ _ (c .before .loop .inv) (c .loop-test .left)
