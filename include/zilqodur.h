@@ -46,7 +46,7 @@ enum ZilqodurRefusal {
     ZILQODUR_CAPS_SHORT = 9,     /* the caps of an arc's users fall short of its need [arc], with the shortfall */
     ZILQODUR_JOB_ROOM = 10,      /* a list for the job's values has fewer than 1,023 entries */
     ZILQODUR_JOB_SIZE = 11,      /* a job has fewer than 16 or more than 24,823 bytes */
-    ZILQODUR_JOB_MARKS = 12,     /* wrong version or closing bytes */
+    ZILQODUR_JOB_SIGNATURE = 12, /* wrong version or closing bytes */
     ZILQODUR_JOB_LAYOUT = 13,    /* arc offset above 255, or rows and trailer do not meet and end exactly */
     ZILQODUR_JOB_FILLER = 14,    /* a filler is not zero [arc] */
     ZILQODUR_JOB_MEMBERS = 15    /* the job's number of members differs from its tree's */

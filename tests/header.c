@@ -204,7 +204,7 @@ static void wrong_jobs(void) {
     uint8_t job[JOB_BYTES];
     size_t size = write_job(job, 0);
     job[size - 1] = 0x4B;
-    EXPECT(is_job(read_job(job, size, ZILQODUR_MOST_ARCS), ZILQODUR_JOB_MARKS, 0, 0, 0, 0));
+    EXPECT(is_job(read_job(job, size, ZILQODUR_MOST_ARCS), ZILQODUR_JOB_SIGNATURE, 0, 0, 0, 0));
     write_job(job, 0);
     put(job + size - 12, 8 * ARCS + 8, 4);
     EXPECT(is_job(read_job(job, size, ZILQODUR_MOST_ARCS), ZILQODUR_JOB_LAYOUT, 0, 0, 0, 0));

@@ -14,7 +14,7 @@ use Rattle.answers.specs.Checks.{outsideShare}
 use Rattle.answers.specs.Level.{outsideCap}
 use Rattle.job_bytes.specs.Format.{arcOffset, memberOffset, version, closing0, closing1, jobArcs, jobMembers, jobCaps}
 use Rattle.job_bytes.specs.Format.{jobProposals, fillerAt}
-use Rattle.job_form.specs.Form.{fewestBytes, mostBytes, longestNote, sizeCheck, marksCheck, layoutCheck, formCheck}
+use Rattle.job_form.specs.Form.{fewestBytes, mostBytes, longestNote, sizeCheck, signatureCheck, layoutCheck, formCheck}
 use Rattle.job_form.specs.Form.{fillersFrom, fillersCheck}
 use Rattle.job.specs.JobCheck.{jobTree, treeMembers, countCheck, sharesCheck, valuesCheck, jobCheck}
 use Rattle.job.specs.Reader.{Lent, roomCheck, readCheck}
@@ -77,9 +77,9 @@ output-kept wanted out = fault-kept (not (eqb (length out) wanted)) 7 0
 form-kept : (bytes : List ℕ) → Kept (formCheck bytes)
 unfolding formCheck
 form-kept bytes =
-    then-kept (sizeCheck (length bytes)) (marksCheck bytes then layoutCheck bytes)
+    then-kept (sizeCheck (length bytes)) (signatureCheck bytes then layoutCheck bytes)
     (fault-kept (ltb (length bytes) fewestBytes || ltb mostBytes (length bytes)) 10 0)
-    (then-kept (marksCheck bytes) (layoutCheck bytes)
+    (then-kept (signatureCheck bytes) (layoutCheck bytes)
     (fault-kept (not (eqb (version bytes) 1) || (not (eqb (closing0 bytes) 84) || not (eqb (closing1 bytes) 74))) 11 0)
     (fault-kept
     (ltb longestNote (arcOffset bytes)

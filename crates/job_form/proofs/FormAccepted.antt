@@ -11,7 +11,8 @@ use Rattle.answer_forms.specs.Answer.{accepted, _then_}
 use Rattle.answer_forms.proofs.Composed.{first-accepted, second-accepted, no-fault}
 use Rattle.job_bytes.specs.Format.{arcOffset, memberOffset, jobArcs, jobMembers, version, closing0, closing1}
 use Rattle.job_form.specs.Inner.{Layout}
-use Rattle.job_form.specs.Form.{fewestBytes, mostBytes, longestNote, sizeCheck, marksCheck, layoutCheck, formCheck}
+use Rattle.job_form.specs.Form.{fewestBytes, mostBytes, longestNote}
+use Rattle.job_form.specs.Form.{sizeCheck, signatureCheck, layoutCheck, formCheck}
 
 pub record Sized (size : ℕ) : Type 0 where
   pub long : fewestBytes ≤ size
@@ -36,7 +37,8 @@ layout-accepted bytes size e =
       short = size .short;
       note-short = ltb-false longestNote (arcOffset bytes) (neither-first long-note (apart || unended) none);
       arcs-end = alike (memberOffset bytes) (arcOffset bytes + 8 * jobArcs bytes) (neither-first apart unended rest);
-      members-end = alike (memberOffset bytes + 16 * jobMembers bytes + 16) (length bytes) (neither-second apart unended rest);
+      members-end =
+          alike (memberOffset bytes + 16 * jobMembers bytes + 16) (length bytes) (neither-second apart unended rest);
     }
   where
     long-note : Bool
@@ -55,13 +57,13 @@ layout-accepted bytes size e =
     rest = neither-second long-note (apart || unended) none
 
 -- version 1, and the closing bytes
-pub record Marks (bytes : List ℕ) : Type 0 where
+pub record Signature (bytes : List ℕ) : Type 0 where
   pub version-is : version bytes ≡ 1
   pub closing0-is : closing0 bytes ≡ 84
   pub closing1-is : closing1 bytes ≡ 74
 
-marks-accepted : (bytes : List ℕ) → marksCheck bytes ≡ accepted → Marks bytes
-marks-accepted bytes e =
+signature-accepted : (bytes : List ℕ) → signatureCheck bytes ≡ accepted → Signature bytes
+signature-accepted bytes e =
     record {
       version-is = alike (version bytes) 1 (neither-first unversioned (unclosed0 || unclosed1) none);
       closing0-is = alike (closing0 bytes) 84 (neither-first unclosed0 unclosed1 rest);
@@ -84,16 +86,18 @@ marks-accepted bytes e =
     rest = neither-second unversioned (unclosed0 || unclosed1) none
 
 module _ (bytes : List ℕ) (e : formCheck bytes ≡ accepted) where
-  after-size : (marksCheck bytes then layoutCheck bytes) ≡ accepted
+  size : sizeCheck (length bytes) ≡ accepted
   unfolding formCheck
-  after-size = second-accepted (sizeCheck (length bytes)) (marksCheck bytes then layoutCheck bytes) e
+  size = first-accepted (sizeCheck (length bytes)) (signatureCheck bytes then layoutCheck bytes) e
 
-  pub form-marks : Marks bytes
-  form-marks = marks-accepted bytes (first-accepted (marksCheck bytes) (layoutCheck bytes) after-size)
+  after-size : (signatureCheck bytes then layoutCheck bytes) ≡ accepted
+  unfolding formCheck
+  after-size = second-accepted (sizeCheck (length bytes)) (signatureCheck bytes then layoutCheck bytes) e
+
+  pub form-signature : Signature bytes
+  form-signature = signature-accepted bytes (first-accepted (signatureCheck bytes) (layoutCheck bytes) after-size)
 
   pub form-layout : Layout bytes
-  unfolding formCheck
   form-layout =
-      layout-accepted bytes
-      (size-accepted (length bytes) (first-accepted (sizeCheck (length bytes)) (marksCheck bytes then layoutCheck bytes) e))
-      (second-accepted (marksCheck bytes) (layoutCheck bytes) after-size)
+      layout-accepted bytes (size-accepted (length bytes) size)
+      (second-accepted (signatureCheck bytes) (layoutCheck bytes) after-size)

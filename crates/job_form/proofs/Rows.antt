@@ -13,13 +13,15 @@ use Rattle.answer_forms.specs.declared.Checked.the-variants.{Accepted, Refused}
 use Rattle.job_bytes.specs.Format.{fillerAt}
 use Rattle.job_form.specs.Form.{fillersFrom}
 
-module _ {found : Check} (bytes : List ℕ) (offset arcs i : ℕ) (so-far : found ≡ fillersFrom bytes offset i (arcs - i)) where
+module _ {found : Check} (bytes : List ℕ) (offset arcs i : ℕ)
+    (so-far : found ≡ fillersFrom bytes offset i (arcs - i)) where
   pub rows-end : arcs ≤ i → found ≡ accepted
   unfolding fillersFrom
   rows-end h = let none : arcs - i ≡ 0 = omega arith in rw none at so-far
 
   -- what is found at row i
-  module _ (h : i < arcs) (r : Checked) {filler : ℕ} (is : filler ≡ fillerAt bytes offset i) (here : checkOf r ≡ fault (not (eqb filler 0)) 14 (i + 1)) where
+  module _ (h : i < arcs) (r : Checked) {filler : ℕ} (is : filler ≡ fillerAt bytes offset i)
+      (here : checkOf r ≡ fault (not (eqb filler 0)) 14 (i + 1)) where
     turn : found ≡ (checkOf r then fillersFrom bytes offset (i + 1) (arcs - (i + 1)))
     unfolding fillersFrom
     turn = let more : arcs - i ≡ suc (arcs - (i + 1)) = omega arith in rw (here, is) (rw more at so-far)

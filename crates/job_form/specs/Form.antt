@@ -23,25 +23,28 @@ abbrev pub sizeCheck : ℕ → Check
 sizeCheck size = fault (ltb size fewestBytes || ltb mostBytes size) 11 0
 
 -- 12: version 1, and the bytes 54 and 4A hexadecimal
-abbrev pub marksCheck : List ℕ → Check
-marksCheck bytes = fault (not (eqb (version bytes) 1) || (not (eqb (closing0 bytes) 84) || not (eqb (closing1 bytes) 74))) 12 0
+abbrev pub signatureCheck : List ℕ → Check
+signatureCheck bytes =
+    fault (not (eqb (version bytes) 1) || (not (eqb (closing0 bytes) 84) || not (eqb (closing1 bytes) 74))) 12 0
 
--- 13: the arc rows start after the note, the member rows where the arc rows end, and the trailer where the member rows end
+-- 13: the arc rows start after the note, the member rows where those end, and the trailer where these end
 abbrev pub layoutCheck : List ℕ → Check
 layoutCheck bytes =
     fault
     (ltb longestNote (arcOffset bytes)
-    || (not (eqb (memberOffset bytes) (arcOffset bytes + 8 * jobArcs bytes)) || not (eqb (memberOffset bytes + 16 * jobMembers bytes + 16) (length bytes))))
+    || (not (eqb (memberOffset bytes) (arcOffset bytes + 8 * jobArcs bytes))
+    || not (eqb (memberOffset bytes + 16 * jobMembers bytes + 16) (length bytes))))
     13 0
 
 -- 11 to 13
 unfoldable pub formCheck : List ℕ → Check
-formCheck bytes = sizeCheck (length bytes) then marksCheck bytes then layoutCheck bytes
+formCheck bytes = sizeCheck (length bytes) then signatureCheck bytes then layoutCheck bytes
 
 -- 14: at the first arc whose filler is not zero, from row i on with this many rows left
 unfoldable pub fillersFrom : List ℕ → ℕ → ℕ → ℕ → Check
 fillersFrom bytes offset i zero = accepted
-fillersFrom bytes offset i (suc rows) = fault (not (eqb (fillerAt bytes offset i) 0)) 14 (i + 1) then fillersFrom bytes offset (i + 1) rows
+fillersFrom bytes offset i (suc rows) =
+    fault (not (eqb (fillerAt bytes offset i) 0)) 14 (i + 1) then fillersFrom bytes offset (i + 1) rows
 
 abbrev pub fillersCheck : List ℕ → Check
 fillersCheck bytes = fillersFrom bytes (arcOffset bytes) 0 (jobArcs bytes)

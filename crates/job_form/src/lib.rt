@@ -1,4 +1,4 @@
-// The form of a job: its size, its marks, its layout, and its fillers.
+// The form of a job: its size, its signature, its layout, and its fillers.
 use answer_forms::Checked;
 use answer_forms::refusals;
 use answer_forms::refuse;
@@ -11,7 +11,8 @@ ghost use lib.Dec.{eqb};
 ghost use Rattle.answer_forms.specs.Answer.{fault};
 ghost use Rattle.answer_forms.specs.Checked.{checkOf};
 ghost use Rattle.job_form.specs.Inner.{Layout};
-ghost use Rattle.job_form.specs.Form.{sizeCheck, marksCheck, layoutCheck, formCheck, fillersFrom, fillersCheck};
+ghost use Rattle.job_form.specs.Form.{sizeCheck, signatureCheck, layoutCheck, formCheck};
+ghost use Rattle.job_form.specs.Form.{fillersFrom, fillersCheck};
 
 const FEWEST_BYTES: usize = 16;
 
@@ -33,9 +34,9 @@ fn check_size(size: usize) -> Checked
 }
 
 // 12: the version and the closing bytes.
-fn check_marks(bytes: &[u8]) -> Checked
+fn check_signature(bytes: &[u8]) -> Checked
     requires { ⌜ 16 ≤ length (now bytes) ⌝ }
-    ensures { λ r. ⌜ checkOf r ≡ marksCheck (now (bytes .entry)) ⌝ }
+    ensures { λ r. ⌜ checkOf r ≡ signatureCheck (now (bytes .entry)) ⌝ }
 {
     let at = bytes.len() - 16;
     if number_at(bytes, at + 12, 2) != 1 {
@@ -76,9 +77,9 @@ pub fn check_form(bytes: &[u8]) -> Checked
     let Checked::Accepted = size else {
         return size;
     };
-    let marks = check_marks(bytes);
-    let Checked::Accepted = marks else {
-        return marks;
+    let signature = check_signature(bytes);
+    let Checked::Accepted = signature else {
+        return signature;
     };
     check_layout(bytes)
 }

@@ -19,7 +19,7 @@ def trailer(note, rows, arcs, members, version=VERSION, closing=CLOSING):
     return pack("<IIHHH", note, rows, arcs, members, version) + closing
 
 
-def job(parents, costs, caps, proposals, note=b"", fillers=(), **marks):
+def job(parents, costs, caps, proposals, note=b"", fillers=(), **signature):
     """The bytes of a job whose parts meet; `fillers` has those that are not 0, by arc."""
     fillers = dict(fillers)
     arc_rows = b"".join(
@@ -28,7 +28,7 @@ def job(parents, costs, caps, proposals, note=b"", fillers=(), **marks):
     )
     member_rows = b"".join(pack("<Qq", *row) for row in zip(caps, proposals))
     front = note + arc_rows
-    return front + member_rows + trailer(len(note), len(front), len(parents), len(caps), **marks)
+    return front + member_rows + trailer(len(note), len(front), len(parents), len(caps), **signature)
 
 
 def plain(parents, costs, **rest):
@@ -108,7 +108,7 @@ def job_lengths():
         yield read(bytes(length - TRAILER) + trailer(0, 0, 0, 0))
 
 
-def job_marks():
+def job_signature():
     for version in (0, 2, 255, 256, 257, 2**15, 2**16 - 1):
         yield read(plain(*T, version=version))
     for first in (0, 0x4A, 0x53, 0x55, 0x74, 0xD4):

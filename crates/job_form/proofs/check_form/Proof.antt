@@ -17,19 +17,25 @@ returns c = stopped _ (c .before .before .check-size .ensures) (c .enum-told2 .g
 sized : (c : tie.After-enum-told) → sizeCheck (length (now (c .before .before .before .before .args .bytes))) ≡ accepted
 sized c = opened (c .before .before .check-size .ensures) (c .enum-told .given .1)
 
-check-marks-requires : tie.Need-check-marks-requires
-check-marks-requires c κs = size-accepted _ (sized c) .long
+check-signature-requires : tie.Need-check-signature-requires
+check-signature-requires c κs = size-accepted _ (sized c) .long
 
 returns-2 : tie.Need-returns-2
 unfolding formCheck
-returns-2 c = went-on (sized (c .before .before .before)) (stopped _ (c .before .before .check-marks .ensures) (c .enum-told4 .given .1))
+returns-2 c =
+    let signature = c .before .before in
+    went-on (sized (signature .before)) (stopped _ (signature .check-signature .ensures) (c .enum-told4 .given .1))
 
 check-layout-requires : tie.Need-check-layout-requires
 check-layout-requires c κs = size-accepted _ (sized (c .before .before .before)) .long
 
 returns-3 : tie.Need-returns-3
 unfolding formCheck
-returns-3 c = went-on (sized (c .before .before .before .before)) (went-on (opened (c .before .before .before .check-marks .ensures) (c .before .enum-told3 .given .1)) (c .check-layout .ensures))
+returns-3 c =
+    let told = c .before in
+    let signature = told .before .before in
+    went-on (sized (signature .before))
+    (went-on (opened (signature .check-signature .ensures) (told .enum-told3 .given .1)) (c .check-layout .ensures))
 
 pub check-form-spec : {M : Type 1} → statement M
 check-form-spec =
@@ -39,7 +45,7 @@ check-form-spec =
     (λ c. search needs)
     (λ c. search needs)
     returns
-    check-marks-requires
+    check-signature-requires
     (λ c. search needs)
     (λ c. search needs)
     returns-2

@@ -19,10 +19,20 @@ loop-holds : tie.Need-loop-holds Inv-loop μ-loop
 loop-holds c = (search needs, rw sub-zero)
 
 returns : tie.Need-returns Inv-loop μ-loop
-returns c = rows-stop _ _ _ _ (c .before .before .before .before .before .loop .inv .1) (c .before .before .before .before .loop-test .taken) _ (c .before .before .before .number-at .ensures .0) (c .before .before .check-filler .ensures) (c .enum-told2 .given .1)
+returns c =
+    let found = c .before .before in
+    let turn = found .before .before in
+    rows-stop _ _ _ _ (turn .before .loop .inv .1) (turn .loop-test .taken) _ (found .before .number-at .ensures .0)
+    (found .check-filler .ensures) (c .enum-told2 .given .1)
 
 loop-again : tie.Need-loop-again Inv-loop μ-loop
-loop-again c = (omega arith, rows-on _ _ _ _ (c .before .before .before .before .before .loop .inv .1) (c .before .before .before .before .loop-test .taken) _ (c .before .before .before .number-at .ensures .0) (c .before .before .check-filler .ensures) (c .enum-told .given .1))
+loop-again c =
+    let found = c .before .before in
+    let turn = found .before .before in (
+      omega arith,
+      rows-on _ _ _ _ (turn .before .loop .inv .1) (turn .loop-test .taken) _ (found .before .number-at .ensures .0)
+          (found .check-filler .ensures) (c .enum-told .given .1),
+    )
 
 returns-2 : tie.Need-returns-2 Inv-loop μ-loop
 returns-2 c = sym (rows-end _ _ _ _ (c .before .loop .inv .1) (c .loop-test .left))
