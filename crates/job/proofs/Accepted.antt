@@ -36,6 +36,7 @@ job-accepted bytes e =
     let after-form = second-accepted (formCheck bytes) (fillersCheck bytes then valuesCheck bytes) e in
     let values = second-accepted (fillersCheck bytes) (valuesCheck bytes) after-form in
     let after-tree = second-accepted (treeCheck (jobTree bytes)) (countCheck bytes then sharesCheck bytes) values in
+    let counts = first-accepted (countCheck bytes) (sharesCheck bytes) after-tree in
     let shares = second-accepted (countCheck bytes) (sharesCheck bytes) after-tree in
     let caps = capsCheck (treeMembers bytes) (jobCaps bytes) in
     let proposals = proposalCheck (treeMembers bytes) (jobProposals bytes) in
@@ -43,7 +44,7 @@ job-accepted bytes e =
       form = first-accepted (formCheck bytes) (fillersCheck bytes then valuesCheck bytes) e;
       fillers = first-accepted (fillersCheck bytes) (valuesCheck bytes) after-form;
       tree = first-accepted (treeCheck (jobTree bytes)) (countCheck bytes then sharesCheck bytes) values;
-      rows = count-accepted (jobMembers bytes) (treeMembers bytes) (first-accepted (countCheck bytes) (sharesCheck bytes) after-tree);
+      rows = count-accepted (jobMembers bytes) (treeMembers bytes) counts;
       caps = first-accepted caps proposals shares;
       proposals = second-accepted caps proposals shares;
     }
@@ -51,11 +52,8 @@ job-accepted bytes e =
 module _ (bytes : List ℕ) (ok : JobAccepted bytes) where
   pub few-arcs : jobArcs bytes ≤ mostArcs
   few-arcs =
-      omega (
-        arith,
-        tree-limits (jobTree bytes) (ok .tree) .arcs,
-        entries-length (parentAt bytes (arcOffset bytes)) (jobArcs bytes),
-      )
+      let rows = entries-length (parentAt bytes (arcOffset bytes)) (jobArcs bytes) in
+      omega (arith, tree-limits (jobTree bytes) (ok .tree) .arcs, rows)
 
   pub few-members : jobMembers bytes ≤ mostArcs
   few-members = omega (arith, tree-limits (jobTree bytes) (ok .tree) .members, ok .rows)

@@ -17,42 +17,46 @@ use Rattle.job_bytes.specs.Format.{parentAt, costAt, capAt, proposalAt}
 use Rattle.job_bytes.specs.Inner.{TrailerOf}
 use Rattle.job_form.proofs.FormAccepted.{form-layout}
 use Rattle.job.specs.JobCheck.{jobCheck}
-use Rattle.job.specs.Reader.{Lent, lent, roomCheck, readCheck, JobValue, jobAnswer, jobLists}
+use Rattle.job.specs.Reader.{Lent, lent, roomIn, readCheck, JobValue, jobAnswer, jobLists}
 use Rattle.job.proofs.Accepted.{JobAccepted, few-arcs, few-members}
 
 -- each list has room for the largest tree
-record Room (parents costs caps proposals : ℕ) : Type 0 where
-  for-parents : mostArcs ≤ parents
-  for-costs : mostArcs ≤ costs
-  for-caps : mostArcs ≤ caps
-  for-proposals : mostArcs ≤ proposals
+record Room (l : Lent) : Type 0 where
+  for-parents : mostArcs ≤ length (l .parents)
+  for-costs : mostArcs ≤ length (l .costs)
+  for-caps : mostArcs ≤ length (l .caps)
+  for-proposals : mostArcs ≤ length (l .proposals)
 
-room-accepted : (parents costs caps proposals : ℕ) → roomCheck parents costs caps proposals ≡ accepted → Room parents costs caps proposals
-room-accepted parents costs caps proposals e =
+room-accepted : (l : Lent) → roomIn l ≡ accepted → Room l
+room-accepted l e =
     let few : ℕ → Bool = λ n. ltb n mostArcs in
-    let none = no-fault (few parents || (few costs || (few caps || few proposals))) 10 0 e in
-    let after = neither-second (few parents) (few costs || (few caps || few proposals)) none in
-    let last = neither-second (few costs) (few caps || few proposals) after in
+    let ps = few (length (l .parents)) in
+    let cs = few (length (l .costs)) in
+    let ks = few (length (l .caps)) in
+    let ss = few (length (l .proposals)) in
+    let none = no-fault (ps || (cs || (ks || ss))) 10 0 e in
+    let after = neither-second ps (cs || (ks || ss)) none in
+    let last = neither-second cs (ks || ss) after in
     record {
-      for-parents = ltb-false parents mostArcs (neither-first (few parents) (few costs || (few caps || few proposals)) none);
-      for-costs = ltb-false costs mostArcs (neither-first (few costs) (few caps || few proposals) after);
-      for-caps = ltb-false caps mostArcs (neither-first (few caps) (few proposals) last);
-      for-proposals = ltb-false proposals mostArcs (neither-second (few caps) (few proposals) last);
+      for-parents = ltb-false (length (l .parents)) mostArcs (neither-first ps (cs || (ks || ss)) none);
+      for-costs = ltb-false (length (l .costs)) mostArcs (neither-first cs (ks || ss) after);
+      for-caps = ltb-false (length (l .caps)) mostArcs (neither-first ks ss last);
+      for-proposals = ltb-false (length (l .proposals)) mostArcs (neither-second ks ss last);
     }
 
 -- the rows stand within the bytes, and each list has room for its values
-pub record Fits (size parents costs caps proposals offset rows arcs members : ℕ) : Type 0 where
-  pub arcs-within : offset + 8 * arcs ≤ size
-  pub members-within : rows + 16 * members ≤ size
-  pub for-parents : arcs ≤ parents
-  pub for-costs : arcs ≤ costs
-  pub for-caps : members ≤ caps
-  pub for-proposals : members ≤ proposals
+pub record Fits (bytes : List ℕ) (l : Lent) (offset rows arcs members : ℕ) : Type 0 where
+  pub arcs-within : offset + 8 * arcs ≤ length bytes
+  pub members-within : rows + 16 * members ≤ length bytes
+  pub for-parents : arcs ≤ length (l .parents)
+  pub for-costs : arcs ≤ length (l .costs)
+  pub for-caps : members ≤ length (l .caps)
+  pub for-proposals : members ≤ length (l .proposals)
 
-pub fits : (bytes : List ℕ) (parents costs caps proposals : ℕ) {offset rows arcs members : ℕ} → roomCheck parents costs caps proposals ≡ accepted → JobAccepted bytes
-    → TrailerOf bytes offset rows arcs members → Fits (length bytes) parents costs caps proposals offset rows arcs members
-fits bytes parents costs caps proposals e ok t =
-    let room = room-accepted parents costs caps proposals e in
+pub fits : (bytes : List ℕ) (l : Lent) {offset rows arcs members : ℕ} → roomIn l ≡ accepted → JobAccepted bytes
+    → TrailerOf bytes offset rows arcs members → Fits bytes l offset rows arcs members
+fits bytes l e ok t =
+    let room = room-accepted l e in
     let layout = form-layout bytes (ok .form) in
     record {
       arcs-within = omega (arith, layout .arcs-end, layout .members-end);
@@ -72,22 +76,24 @@ module _ (bytes : List ℕ) (l : Lent) where
   unfolding jobAnswer jobLists
   turned-away e = (rw e, rw e)
 
-  pub no-room : {number place : ℕ} → roomCheck (length (l .parents)) (length (l .costs)) (length (l .caps)) (length (l .proposals)) ≡ refused number place
-      → Answered (refusal number place) l
+  pub no-room : {number place : ℕ} → roomIn l ≡ refused number place → Answered (refusal number place) l
   unfolding readCheck
   no-room e = turned-away (rw e)
 
-  module _ (room : roomCheck (length (l .parents)) (length (l .costs)) (length (l .caps)) (length (l .proposals)) ≡ accepted) where
+  module _ (room : roomIn l ≡ accepted) where
     pub no-job : {number place : ℕ} → jobCheck bytes ≡ refused number place → Answered (refusal number place) l
     unfolding readCheck
     no-job e = turned-away (rw (room, e))
 
-    pub read-job : {offset rows arcs members : ℕ} {parents costs caps : List ℕ} {proposals : List ℤ} → jobCheck bytes ≡ accepted → TrailerOf bytes offset rows arcs members
+    pub read-job : {offset rows arcs members : ℕ} {parents costs caps : List ℕ} {proposals : List ℤ}
+        → jobCheck bytes ≡ accepted
+        → TrailerOf bytes offset rows arcs members
         → parents ≡ entries arcs (parentAt bytes offset) ++ drop arcs (l .parents)
         → costs ≡ entries arcs (costAt bytes offset) ++ drop arcs (l .costs)
         → caps ≡ entries members (capAt bytes rows) ++ drop members (l .caps)
         → proposals ≡ entries members (proposalAt bytes rows) ++ drop members (l .proposals)
-        → Answered (value (record { arcs = arcs; members = members; note = offset })) (lent parents costs caps proposals)
+        → Answered (value (record { arcs = arcs; members = members; note = offset }))
+        (lent parents costs caps proposals)
     unfolding readCheck jobAnswer jobLists
     read-job job t ps cs ks ss = (
       rw (room, job, t .arcs-is, t .members-is, t .arc-offset-is),

@@ -16,7 +16,8 @@ use Rattle.engine.specs.declared.members.MemberCount.the-variants.{Members, Ref
 use Rattle.job.specs.JobCheck.{sharesOf}
 use Rattle.job.specs.Inner.{treeFound}
 
-found-by : (check : Check) (count : MemberCount) (n : ℕ) → memberCountOf count ≡ answer check n → treeFound count ≡ check
+found-by : (check : Check) (count : MemberCount) (n : ℕ) → memberCountOf count ≡ answer check n
+    → treeFound count ≡ check
 found-by accepted (Members m) n e = refl
 found-by accepted (NoMembers r) n e = absurd (let z : _≡_ {A = ℕ} 0 1 = cc in omega arith)
 found-by (refused number place) (Members m) n e = absurd (let z : _≡_ {A = ℕ} 0 1 = cc in omega arith)

@@ -2,14 +2,15 @@
 use Prim.Native.Nat.{ℕ}
 use mathlib.Core.Path.{_≡_, sym}
 use mathlib.Core.List.{List, _++_}
-use lib.ListN.{length, drop}
+use lib.ListN.{drop}
 use Rattle.basics.proofs.Lists.{entries-front}
 use Rattle.answer_forms.specs.Answer.{accepted}
 use Rattle.answer_forms.proofs.Composed.{second-accepted, answered}
-use Rattle.job_bytes.specs.Format.{jobArcs, jobMembers, arcOffset, memberOffset, parentAt, costAt, capAt, proposalAt, jobParents, jobCosts, jobCaps, jobProposals}
+use Rattle.job_bytes.specs.Format.{arcOffset, memberOffset, jobArcs, jobMembers}
+use Rattle.job_bytes.specs.Format.{parentAt, costAt, capAt, proposalAt, jobParents, jobCosts, jobCaps, jobProposals}
 use Rattle.job_form.proofs.SameJob.{same-job}
 use Rattle.job.specs.JobCheck.{jobCheck}
-use Rattle.job.specs.Reader.{Lent, lent, roomCheck, readCheck, jobValue, jobAnswer, jobLists}
+use Rattle.job.specs.Reader.{Lent, lent, roomIn, readCheck, jobValue, jobAnswer, jobLists}
 use Rattle.job.specs.Laws.{Usable, ReadUsable, Determined}
 use Rattle.job.proofs.Accepted.{job-accepted}
 
@@ -24,13 +25,13 @@ filled bytes l e = rw e
 usable : (bytes : List ℕ) (l : Lent) → readCheck bytes l ≡ accepted → Usable (jobValue bytes) (jobLists bytes l)
 unfolding readCheck
 usable bytes l e =
-    let room = roomCheck (length (l .parents)) (length (l .costs)) (length (l .caps)) (length (l .proposals)) in
-    let ok = job-accepted bytes (second-accepted room (jobCheck bytes) e) in
-    let ps = entries-front (parentAt bytes (arcOffset bytes)) (jobArcs bytes) (drop (jobArcs bytes) (l .parents)) in
-    let cs = entries-front (costAt bytes (arcOffset bytes)) (jobArcs bytes) (drop (jobArcs bytes) (l .costs)) in
-    let ks = entries-front (capAt bytes (memberOffset bytes)) (jobMembers bytes) (drop (jobMembers bytes) (l .caps)) in
-    let ss =
-    entries-front (proposalAt bytes (memberOffset bytes)) (jobMembers bytes) (drop (jobMembers bytes) (l .proposals)) in
+    let ok = job-accepted bytes (second-accepted (roomIn l) (jobCheck bytes) e) in
+    let m = jobArcs bytes in
+    let n = jobMembers bytes in
+    let ps = entries-front (parentAt bytes (arcOffset bytes)) m (drop m (l .parents)) in
+    let cs = entries-front (costAt bytes (arcOffset bytes)) m (drop m (l .costs)) in
+    let ks = entries-front (capAt bytes (memberOffset bytes)) n (drop n (l .caps)) in
+    let ss = entries-front (proposalAt bytes (memberOffset bytes)) n (drop n (l .proposals)) in
     rw (filled bytes l e)
     (record {
       tree = rw (ps, cs) (ok .tree);
@@ -41,7 +42,9 @@ usable bytes l e =
 
 pub read-usable : ReadUsable
 unfolding jobAnswer
-read-usable bytes l v e = let read = answered (readCheck bytes l) (jobValue bytes) v e in rw (read .1) (usable bytes l (read .0))
+read-usable bytes l v e =
+    let read = answered (readCheck bytes l) (jobValue bytes) v e in
+    rw (read .1) (usable bytes l (read .0))
 
 pub determined : Determined
 determined a b as-bytes bs-bytes ea eb alike =

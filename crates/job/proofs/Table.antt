@@ -12,7 +12,8 @@ use Rattle.job.specs.Reader.{readCheck, jobAnswer, jobLists}
 use Rattle.job.specs.Table.{JobTable}
 
 pub table : JobTable
-unfolding hasChild arcsCheck treeCheck rangeCheck littleEndian signed64 entries arcOffset memberOffset jobArcs jobMembers version formCheck fillersFrom sharesCheck valuesCheck jobCheck readCheck jobAnswer jobLists
+unfolding hasChild arcsCheck treeCheck rangeCheck littleEndian signed64 entries arcOffset memberOffset
+    jobArcs jobMembers version formCheck fillersFrom sharesCheck valuesCheck jobCheck readCheck jobAnswer jobLists
 table =
     record {
       T-size = refl;

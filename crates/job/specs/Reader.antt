@@ -27,9 +27,12 @@ abbrev pub roomCheck : ℕ → ℕ → ℕ → ℕ → Check
 roomCheck parents costs caps proposals =
     fault (ltb parents mostArcs || (ltb costs mostArcs || (ltb caps mostArcs || ltb proposals mostArcs))) 10 0
 
+abbrev pub roomIn : Lent → Check
+roomIn l = roomCheck (length (l .parents)) (length (l .costs)) (length (l .caps)) (length (l .proposals))
+
 -- 10, then the checks on the bytes
 unfoldable pub readCheck : List ℕ → Lent → Check
-readCheck bytes l = roomCheck (length (l .parents)) (length (l .costs)) (length (l .caps)) (length (l .proposals)) then jobCheck bytes
+readCheck bytes l = roomIn l then jobCheck bytes
 
 -- the number of arcs and of members, and the length of the note
 pub record JobValue : Type 0 where
@@ -50,7 +53,8 @@ jobLists bytes l =
       parents = written (readCheck bytes l) (l .parents) (jobParents bytes ++ drop (jobArcs bytes) (l .parents));
       costs = written (readCheck bytes l) (l .costs) (jobCosts bytes ++ drop (jobArcs bytes) (l .costs));
       caps = written (readCheck bytes l) (l .caps) (jobCaps bytes ++ drop (jobMembers bytes) (l .caps));
-      proposals = written (readCheck bytes l) (l .proposals) (jobProposals bytes ++ drop (jobMembers bytes) (l .proposals));
+      proposals =
+          written (readCheck bytes l) (l .proposals) (jobProposals bytes ++ drop (jobMembers bytes) (l .proposals));
     }
 
 -- what each case of JobRead stands for

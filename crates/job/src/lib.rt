@@ -20,8 +20,6 @@ pub enum JobRead {
     Refused(Refusal),
 }
 
-// The most arcs, and so the most members, of a tree.
-
 // 10: each list has room for the largest tree.
 fn check_room(parents: usize, costs: usize, caps: usize, proposals: usize) -> Checked
     ensures { λ r. ⌜ checkOf r ≡ roomCheck parents costs caps proposals ⌝ }
@@ -64,8 +62,12 @@ pub fn read(
     caps: &mut [u64],
     proposals: &mut [i64],
 ) -> JobRead
-    ensures { λ r. ⌜ jobReadOf r ≡ jobAnswer (now (bytes .entry)) (lent (now (parents .entry)) (now (costs .entry)) (now (caps .entry)) (now (proposals .entry))) ⌝ }
-    ensures { λ _. ⌜ lent (now (parents .exit)) (now (costs .exit)) (now (caps .exit)) (now (proposals .exit)) ≡ jobLists (now (bytes .entry)) (lent (now (parents .entry)) (now (costs .entry)) (now (caps .entry)) (now (proposals .entry))) ⌝ }
+    ensures { λ r. ⌜ jobReadOf r
+        ≡ jobAnswer (now (bytes .entry))
+        (lent (now (parents .entry)) (now (costs .entry)) (now (caps .entry)) (now (proposals .entry))) ⌝ }
+    ensures { λ _. ⌜ lent (now (parents .exit)) (now (costs .exit)) (now (caps .exit)) (now (proposals .exit))
+        ≡ jobLists (now (bytes .entry))
+        (lent (now (parents .entry)) (now (costs .entry)) (now (caps .entry)) (now (proposals .entry))) ⌝ }
 {
     let room = check_room(parents.len(), costs.len(), caps.len(), proposals.len());
     let Checked::Accepted = room else {

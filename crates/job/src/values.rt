@@ -28,7 +28,10 @@ const MOST_MEMBER_ROWS: usize = 1550;
 fn count_members(bytes: &[u8], offset: usize, arcs: usize) -> MemberCount
     requires { ⌜ offset + 8 * arcs ≤ length (now bytes) ⌝ }
     requires { ⌜ arcs ≤ 3100 ⌝ }
-    ensures { λ r. ⌜ memberCountOf r ≡ memberCountAnswer (treeOf (entries arcs (parentAt (now (bytes .entry)) offset)) (entries arcs (costAt (now (bytes .entry)) offset))) ⌝ }
+    ensures { λ r. ⌜ memberCountOf r
+        ≡ memberCountAnswer (treeOf
+        (entries arcs (parentAt (now (bytes .entry)) offset))
+        (entries arcs (costAt (now (bytes .entry)) offset))) ⌝ }
 {
     let mut parents = [0u16; MOST_ARC_ROWS];
     let mut costs = [0u32; MOST_ARC_ROWS];
@@ -62,7 +65,10 @@ fn check_count(rows: usize, members: usize) -> Checked
 fn check_shares(bytes: &[u8], offset: usize, members: usize) -> Checked
     requires { ⌜ offset + 16 * members ≤ length (now bytes) ⌝ }
     requires { ⌜ members ≤ 1550 ⌝ }
-    ensures { λ r. ⌜ checkOf r ≡ sharesOf members (entries members (capAt (now (bytes .entry)) offset)) (entries members (proposalAt (now (bytes .entry)) offset)) ⌝ }
+    ensures { λ r. ⌜ checkOf r
+        ≡ sharesOf members
+        (entries members (capAt (now (bytes .entry)) offset))
+        (entries members (proposalAt (now (bytes .entry)) offset)) ⌝ }
 {
     let mut caps = [0u64; MOST_MEMBER_ROWS];
     job_bytes::read_caps(bytes, offset, members, &mut caps);

@@ -22,14 +22,20 @@ check-fillers-requires c κs = form-layout _ (formed c)
 
 returns-2 : tie.Need-returns-2
 unfolding jobCheck
-returns-2 c = went-on (formed (c .before .before .before)) (stopped _ (c .before .before .check-fillers .ensures) (c .enum-told4 .given .1))
+returns-2 c =
+    let fillers = c .before .before in
+    went-on (formed (fillers .before)) (stopped _ (fillers .check-fillers .ensures) (c .enum-told4 .given .1))
 
 check-values-requires : tie.Need-check-values-requires
 check-values-requires c κs = form-layout _ (formed (c .before .before .before))
 
 returns-3 : tie.Need-returns-3
 unfolding jobCheck
-returns-3 c = went-on (formed (c .before .before .before .before)) (went-on (opened (c .before .before .before .check-fillers .ensures) (c .before .enum-told3 .given .1)) (c .check-values .ensures))
+returns-3 c =
+    let told = c .before in
+    let fillers = told .before .before in
+    went-on (formed (fillers .before))
+    (went-on (opened (fillers .check-fillers .ensures) (told .enum-told3 .given .1)) (c .check-values .ensures))
 
 pub check-job-spec : {M : Type 1} → statement M
 check-job-spec =

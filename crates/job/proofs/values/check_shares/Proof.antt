@@ -1,4 +1,6 @@
+use Prim.Native.Nat.{ℕ}
 use mathlib.Core.Path.{_≡_}
+use mathlib.Core.List.{List}
 use borrow.Author.Needs.{needs}
 use denote.Ref.{now}
 use Rattle.basics.specs.Sum.{entries}
@@ -11,8 +13,15 @@ use Rattle.job_form.proofs.Composed.{stopped, went-on}
 use Rattle.job.proofs.values.check_shares.Statement.{statement}
 use Rattle.job.proofs.values.check_shares.Tie as tie
 
-limits : (c : tie.After-check-caps) → checkOf (c .check-caps .result)
-    ≡ capsCheck (c .before .before .before .before .before .before .before .args .members) (entries (c .before .before .before .before .before .before .before .args .members) (capAt (now (c .before .before .before .before .before .before .before .args .bytes)) (c .before .before .before .before .before .before .before .args .offset)))
+abbrev start : tie.After-check-caps → tie.Start
+start c = c .before .before .before .before .before .before .before
+
+-- the caps that the rows hold
+abbrev caps : tie.Start → List ℕ
+caps s = entries (s .args .members) (capAt (now (s .args .bytes)) (s .args .offset))
+
+limits : (c : tie.After-check-caps)
+    → checkOf (c .check-caps .result) ≡ capsCheck (start c .args .members) (caps (start c))
 limits c = rw (entries-part _ _ _ (c .before .before .before .before .read-caps .ensures)) at (c .check-caps .ensures)
 
 returns : tie.Need-returns
@@ -20,9 +29,10 @@ returns c = stopped _ (limits (c .before .before)) (c .enum-told2 .given .1)
 
 returns-2 : tie.Need-returns-2
 returns-2 c =
-    went-on (opened (limits (c .before .before .before .before .before .before .before .before)) (c .before .before .before .before .before .before .enum-told .given .1))
-    (rw (entries-part _ _ _ (c .before .before .before .before .read-proposals .ensures)) at
-    (c .check-proposal .ensures))
+    let read = c .before .before .before .before in
+    let told = read .before .before in
+    went-on (opened (limits (told .before .before)) (told .enum-told .given .1))
+    (rw (entries-part _ _ _ (read .read-proposals .ensures)) at (c .check-proposal .ensures))
 
 pub check-shares-spec : {M : Type 1} → statement M
 check-shares-spec =

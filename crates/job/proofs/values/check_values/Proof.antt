@@ -1,4 +1,6 @@
+use Prim.Native.Nat.{ℕ}
 use mathlib.Core.Path.{_≡_, sym, _∙_}
+use mathlib.Core.List.{List}
 use native.Mathlib.Omega.{arith}
 use borrow.Author.Needs.{needs}
 use denote.Ref.{now}
@@ -16,42 +18,67 @@ use Rattle.job.proofs.Accepted.{count-accepted}
 use Rattle.job.proofs.values.check_values.Statement.{statement}
 use Rattle.job.proofs.values.check_values.Tie as tie
 
-counted : (c : tie.After-count-members) → memberCountOf (c .count-members .result) ≡ memberCountAnswer (jobTree (now (c .before .before .before .args .bytes)))
+abbrev bytes : tie.After-count-members → List ℕ
+bytes c = now (c .before .before .before .args .bytes)
+
+counted : (c : tie.After-count-members)
+    → memberCountOf (c .count-members .result) ≡ memberCountAnswer (jobTree (bytes c))
 counted c = let t = c .before .read-trailer .ensures in rw (t .arcs-is, t .arc-offset-is) at (c .count-members .ensures)
 
 returns : tie.Need-returns
 unfolding valuesCheck
 returns c =
-    let is = counted (c .before .before .before) in
-    turned-down _ (c .tree-found .ensures ∙ tree-is (c .before .before .before .count-members .result) _ is) (tree-refused _ _ is (c .before .enum-told .given .1))
+    let count = c .before .before .before in
+    let found = c .tree-found .ensures ∙ tree-is (count .count-members .result) _ (counted count) in
+    turned-down _ found (tree-refused _ _ (counted count) (c .before .enum-told .given .1))
+
+abbrev count : tie.After-known-told → tie.After-count-members
+count c = c .before .before .before
+
+abbrev members : tie.After-known-told → ℕ
+members c = c .before .count .given .0 .0
 
 -- the tree is accepted, and these are its members
-known : (c : tie.After-known-told) → (treeCheck (jobTree (now (c .before .before .before .before .before .before .args .bytes))) ≡ accepted) × (c .before .count .given .0 .0 ≡ treeMembers (now (c .before .before .before .before .before .before .args .bytes)))
-known c = tree-counted _ _ (counted (c .before .before .before)) (c .before .count .given .1)
+known : (c : tie.After-known-told)
+    → (treeCheck (jobTree (bytes (count c))) ≡ accepted) × (members c ≡ treeMembers (bytes (count c)))
+known c = tree-counted _ _ (counted (count c)) (c .before .count .given .1)
 
-rows-found : (c : tie.After-check-count) → checkOf (c .check-count .result) ≡ countCheck (now (c .before .before .before .before .before .before .before .args .bytes))
-rows-found c = rw (c .before .before .before .before .before .read-trailer .ensures .members-is, known (c .before) .1) at (c .check-count .ensures)
+rows-found : (c : tie.After-check-count) → checkOf (c .check-count .result) ≡ countCheck (bytes (count (c .before)))
+rows-found c =
+    let t = count (c .before) .before .read-trailer .ensures in
+    cc (c .check-count .ensures, t .members-is, known (c .before) .1)
 
 returns-2 : tie.Need-returns-2
 unfolding valuesCheck
-returns-2 c = went-on (known (c .before .before .before) .0) (stopped _ (rows-found (c .before .before)) (c .enum-told3 .given .1))
+returns-2 c =
+    let rows = c .before .before in
+    went-on (known (rows .before) .0) (stopped _ (rows-found rows) (c .enum-told3 .given .1))
 
-rows-are : (c : tie.After-enum-told2) → c .before .before .before .before .count .given .0 .0 ≡ jobMembers (now (c .before .before .before .before .before .before .before .before .before .args .bytes))
-rows-are c = known (c .before .before .before) .1 ∙ sym (count-accepted _ _ (opened (rows-found (c .before .before)) (c .enum-told2 .given .1)))
+abbrev told : tie.After-enum-told2 → tie.After-known-told
+told c = c .before .before .before
+
+rows-accepted : (c : tie.After-enum-told2) → countCheck (bytes (count (told c))) ≡ accepted
+rows-accepted c = opened (rows-found (c .before .before)) (c .enum-told2 .given .1)
+
+rows-are : (c : tie.After-enum-told2) → members (told c) ≡ jobMembers (bytes (count (told c)))
+rows-are c = known (told c) .1 ∙ sym (count-accepted _ _ (rows-accepted c))
 
 check-shares-requires : tie.Need-check-shares-requires
 check-shares-requires c κs =
-    let t = c .before .before .before .before .before .before .before .read-trailer .ensures in
-    let l = c .before .before .before .before .before .before .before .before .before .pre in
-    (omega (arith, rows-are c, t .member-offset-is, l .members-end), omega (arith, rows-are c, l .members-end, l .short))
+    let trailer = count (told c) .before in
+    let t = trailer .read-trailer .ensures in
+    let l = trailer .before .before .pre in
+    let rows = rows-are c in
+    (omega (arith, rows, t .member-offset-is, l .members-end), omega (arith, rows, l .members-end, l .short))
 
 returns-3 : tie.Need-returns-3
 unfolding valuesCheck sharesCheck
 returns-3 c =
-    let t = c .before .before .before .before .before .before .before .before .read-trailer .ensures in
-    went-on (known (c .before .before .before .before) .0)
-    (went-on (opened (rows-found (c .before .before .before)) (c .before .enum-told2 .given .1))
-    (shares-by _ _ _ (known (c .before .before .before .before) .1) (rows-are (c .before)) (rw (t .member-offset-is) at (c .check-shares .ensures))))
+    let tree = known (told (c .before)) in
+    let t = count (told (c .before)) .before .read-trailer .ensures in
+    let shares = rw (t .member-offset-is) at (c .check-shares .ensures) in
+    went-on (tree .0)
+    (went-on (rows-accepted (c .before)) (shares-by _ _ _ (tree .1) (rows-are (c .before)) shares))
 
 pub check-values-spec : {M : Type 1} → statement M
 check-values-spec =

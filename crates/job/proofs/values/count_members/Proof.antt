@@ -5,11 +5,10 @@ use Rattle.job.proofs.values.count_members.Tie as tie
 
 returns : tie.Need-returns
 returns c =
-    rw (
-      entries-part _ _ _
-          (c .before .before .before .before .before .before .before .before .before .read-parents .ensures),
-      entries-part _ _ _ (c .before .before .before .before .before .before .read-costs .ensures),
-    ) at (c .count-members .ensures)
+    let costs = c .before .before .before .before .before .before in
+    let parents = costs .before .before .before in
+    rw (entries-part _ _ _ (parents .read-parents .ensures), entries-part _ _ _ (costs .read-costs .ensures))
+    at (c .count-members .ensures)
 
 pub count-members-spec : {M : Type 1} → statement M
 count-members-spec =
