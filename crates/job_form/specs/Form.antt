@@ -1,6 +1,5 @@
 -- The form of a job's bytes: 11 to 14, with document 01's numbers and places.
-use Prim.Native.Nat.{ℕ, zero, suc, _+_, _*_, _≤_}
-use mathlib.Core.Path.{_≡_}
+use Prim.Native.Nat.{ℕ, zero, suc, _+_, _*_}
 use mathlib.Core.Bool.{_||_, not}
 use mathlib.Core.List.{List}
 use lib.ListN.{length}

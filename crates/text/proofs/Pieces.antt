@@ -11,7 +11,9 @@ use Rattle.text.specs.Put.{Put}
 
 sets-append : (s t l : List ℕ) (i : ℕ) → sets (sets l i s) (i + length s) t ≡ sets l i (s ++ t)
 sets-append [] t l i = rw add-zero
-sets-append (x ∷ s) t l i = let e : i + suc (length s) ≡ suc i + length s = omega arith in rw e (sets-append s t (set l i x) (suc i))
+sets-append (x ∷ s) t l i =
+    let e : i + suc (length s) ≡ suc i + length s = omega arith in
+    rw e (sets-append s t (set l i x) (suc i))
 
 pub put-then : {a b c s t : List ℕ} {at e f : ℕ} → Put a at s b e → Put b e t c f → Put a at (s ++ t) c f
 put-then {a} {b} {c} {s} {t} {at} {e} {f} p q =

@@ -12,7 +12,8 @@ digitCode d = 48 + d
 -- the digits of n; the first argument bounds the steps taken
 unfoldable pub decimalIn : ℕ → ℕ → List ℕ
 decimalIn zero n = digitCode n ∷ []
-decimalIn (suc steps) n = elim (ltb n 10) [ true ↦ digitCode n ∷ [] | false ↦ decimalIn steps (n / 10) ++ (digitCode (n % 10) ∷ []) ]
+decimalIn (suc steps) n =
+    elim (ltb n 10) [ true ↦ digitCode n ∷ [] | false ↦ decimalIn steps (n / 10) ++ (digitCode (n % 10) ∷ []) ]
 
 -- the decimal digits of n, no zeros in front of another digit
 unfoldable pub decimal : ℕ → List ℕ

@@ -1,5 +1,6 @@
-use Prim.Native.Nat.{_-_, _≤_}
+use Prim.Native.Nat.{ℕ, _-_, _≤_}
 use mathlib.Core.Path.{_≡_}
+use mathlib.Core.List.{List}
 use native.Mathlib.Omega.{arith}
 use lib.ListN.{length, take, length-take}
 use borrow.Author.Needs.{needs}
@@ -8,16 +9,24 @@ use Rattle.text.proofs.Digits.{front-decimal, few-digits}
 use Rattle.text.proofs.number.put_number.Statement.{statement}
 use Rattle.text.proofs.number.put_number.Tie as tie
 
-spelt : (c : tie.After-put-arg2)
-    → take (c .before .before .before .decimal .result - 0) (c .before .before .before .decimal .last .1 .0) ≡ decimal (c .before .before .before .before .before .before .args .n)
-spelt c =
-    let ensured = c .before .before .before .decimal .ensures in
-    front-decimal _ (ensured .1 .0) (ensured .1 .1)
+abbrev made : tie.After-put-arg2 → tie.After-decimal
+made c = c .before .before .before
 
-few : (c : tie.After-put-arg2) → length (take (c .before .before .before .decimal .result - 0) (c .before .before .before .decimal .last .1 .0)) ≤ 20
+abbrev start : tie.After-put-arg2 → tie.Start
+start c = made c .before .before .before
+
+-- the part of the array that has the digits
+abbrev digits : tie.After-put-arg2 → List ℕ
+digits c = take (made c .decimal .result - 0) (made c .decimal .last .1 .0)
+
+spelt : (c : tie.After-put-arg2) → digits c ≡ decimal (start c .args .n)
+spelt c = let ensured = made c .decimal .ensures in front-decimal _ (ensured .1 .0) (ensured .1 .1)
+
+few : (c : tie.After-put-arg2) → length (digits c) ≤ 20
 few c =
-    let decimal = c .before .before .before .decimal in
-    omega (arith, length-take (decimal .result - 0) (decimal .last .1 .0), few-digits (c .before .before .before .before .before .before .fits .n .fits) (decimal .ensures .1 .0))
+    let call = made c .decimal in
+    let most = few-digits (start c .fits .n .fits) (call .ensures .1 .0) in
+    omega (arith, length-take (call .result - 0) (call .last .1 .0), most)
 
 put-requires : tie.Need-put-requires
 put-requires c κs = omega (arith, few c)

@@ -22,17 +22,20 @@ signed (negsuc n) b some = rw b
 
 returns : tie.Need-returns
 returns c =
-    let number = c .before .before .put-number .ensures in
-    let below = c .before .before .before .before .before .before .minus .ensures in
-    let n = toZ-ofZ (c .before .before .before .before .before .before .before .before .fits .n) in
-    (rw (ap signedDecimal (sym n) ∙ unsigned _ below (c .before .before .before .before .before .if1 .taken) (c .before .before .before .plus .ensures)) (number .0), omega arith)
+    let plus = c .before .before .before in
+    let test = plus .before .before in
+    let minus = test .before in
+    let n = toZ-ofZ (minus .before .before .fits .n) in
+    let is = unsigned _ (minus .minus .ensures) (test .if1 .taken) (plus .plus .ensures) in
+    (rw (ap signedDecimal (sym n) ∙ is) (c .before .before .put-number .ensures .0), omega arith)
 
 returns-2 : tie.Need-returns-2
 returns-2 c =
-    let labelled = c .before .before .put-labelled .ensures in
-    let below = c .before .before .before .before .before .before .minus .ensures in
-    let n = toZ-ofZ (c .before .before .before .before .before .before .before .before .fits .n) in
-    (rw (ap signedDecimal (sym n) ∙ signed _ below (c .before .before .before .before .before .if1 .left)) (labelled .0), omega arith)
+    let test = c .before .before .before .before .before in
+    let minus = test .before in
+    let n = toZ-ofZ (minus .before .before .fits .n) in
+    let is = signed _ (minus .minus .ensures) (test .if1 .left) in
+    (rw (ap signedDecimal (sym n) ∙ is) (c .before .before .put-labelled .ensures .0), omega arith)
 
 pub put-signed-spec : {M : Type 1} → statement M
 put-signed-spec =

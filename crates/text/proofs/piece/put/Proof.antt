@@ -15,7 +15,9 @@ loop-holds : tie.Need-loop-holds Inv-loop μ-loop
 loop-holds c = copy-start _ _ _ (c .pre)
 
 loop-again : tie.Need-loop-again Inv-loop μ-loop
-loop-again c = copy-on _ _ _ (c .before .before .before .pre) (c .before .before .loop .inv) (c .before .loop-test .taken)
+loop-again c =
+    let turn = c .before in
+    copy-on _ _ _ (turn .before .before .pre) (turn .before .loop .inv) (turn .loop-test .taken)
 
 returns : tie.Need-returns Inv-loop μ-loop
 returns c = copy-end _ _ _ (c .before .before .pre) (c .before .loop .inv) (c .loop-test .left)
