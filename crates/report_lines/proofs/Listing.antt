@@ -9,7 +9,8 @@ use Rattle.text.proofs.Pieces.{put-none, put-then}
 use lib.ListN.{length}
 
 -- `text j` is what the numbers below j say, each in at most `most` bytes; it is written for the first j of n
-pub record Listed (text : ℕ → List ℕ) (most n : ℕ) (before : List ℕ) (at : ℕ) (out : List ℕ) (next j : ℕ) : Type 0 where
+pub record Listed (text : ℕ → List ℕ) (most n : ℕ) (before : List ℕ) (at : ℕ) (out : List ℕ) (next j : ℕ)
+    : Type 0 where
   pub within : j ≤ n
   pub short : next ≤ at + most * j
   pub put : Put before at (text j) out next
@@ -19,8 +20,8 @@ module _ (text : ℕ → List ℕ) (most n : ℕ) (before : List ℕ) (at : ℕ)
   listed-start e = record { within = omega arith; short = omega arith; put = rw e (put-none before at (omega arith)) }
 
   module _ {out : List ℕ} {next j : ℕ} (s : Listed text most n before at out next j) where
-    pub listed-on : {piece after : List ℕ} {end : ℕ} → j < n → text (suc j) ≡ text j ++ piece → Put out next piece after end → end ≤ next + most
-        → Listed text most n before at after end (j + 1)
+    pub listed-on : {piece after : List ℕ} {end : ℕ} → j < n → text (suc j) ≡ text j ++ piece
+        → Put out next piece after end → end ≤ next + most → Listed text most n before at after end (j + 1)
     listed-on h e p l =
         rw add-one
         (record { within = omega arith; short = omega arith; put = rw e (put-then (s .put) p) })

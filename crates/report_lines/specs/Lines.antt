@@ -49,7 +49,8 @@ auditLine members (value pass) words = ascii "audit pass\n"
 auditLine members (refusal number place) words = refusedLine number place
 
 abbrev pub shortLine : ℕ → ℕ → ℕ → List ℕ
-shortLine number place shortfall = labelled "level refused " number ++ labelled " at " place ++ labelled " short " shortfall ++ newline
+shortLine number place shortfall =
+    labelled "level refused " number ++ labelled " at " place ++ labelled " short " shortfall ++ newline
 
 abbrev pub levelLine : LevelAnswer → List ℕ
 levelLine (split members) = ascii "level ok\n"
@@ -63,7 +64,12 @@ levelShare (notSplit number place shortfall) share = ascii " level -"
 -- a member, its vertex, and its three shares
 abbrev pub memberLine : LevelAnswer → ℕ → ℕ → ℤ → ℕ → ℕ → List ℕ
 memberLine level j vertex proposed by-arc share =
-    decimal j ++ labelled " at " vertex ++ labelledSigned ": proposed " proposed ++ labelled " by-arc " by-arc ++ levelShare level share ++ newline
+    decimal j
+    ++ labelled " at " vertex
+    ++ labelledSigned ": proposed " proposed
+    ++ labelled " by-arc " by-arc
+    ++ levelShare level share
+    ++ newline
 
 -- the lines of the members below j; the lists have an entry a member
 unfoldable pub memberLines : LevelAnswer → List ℕ → List ℤ → List ℕ → List ℕ → ℕ → List ℕ

@@ -74,7 +74,8 @@ fn put_total(out: &mut [u8], at: usize, difference: i64) -> usize
 pub fn put_audit(out: &mut [u8], at: usize, members: usize, audited: Audited) -> usize
     requires { ⌜ members ≤ mostArcs ⌝ }
     requires { ⌜ at + 22000 ≤ length (now out) ⌝ }
-    ensures { λ r. ⌜ Put (now (out .entry)) at (auditLine members (auditOf (audited .answer)) (audited .group)) (now (out .exit)) r ⌝ }
+    ensures { λ r. ⌜ Put (now (out .entry)) at
+        (auditLine members (auditOf (audited .answer)) (audited .group)) (now (out .exit)) r ⌝ }
     ensures { λ r. ⌜ r ≤ at + 22000 ⌝ }
 {
     let answer = audited.answer;

@@ -29,7 +29,8 @@ fn put_member(
     share: u64,
 ) -> usize
     requires { ⌜ at + 150 ≤ length (now out) ⌝ }
-    ensures { λ r. ⌜ Put (now (out .entry)) at (memberLine (levelOf «level») j vertex proposed «by_arc» share) (now (out .exit)) r ⌝ }
+    ensures { λ r. ⌜ Put (now (out .entry)) at
+        (memberLine (levelOf «level») j vertex proposed «by_arc» share) (now (out .exit)) r ⌝ }
     ensures { λ r. ⌜ r ≤ at + 150 ⌝ }
 {
     let a = text::put_number(out, at, j as u64);
@@ -54,7 +55,9 @@ pub fn put_members(
     requires { ⌜ length (now «by_arc») ≡ length (now proposed) ⌝ }
     requires { ⌜ length (now shares) ≡ length (now proposed) ⌝ }
     requires { ⌜ at + 150 * length (now proposed) ≤ length (now out) ⌝ }
-    ensures { λ r. ⌜ Put (now (out .entry)) at (memberLines (levelOf «level») (now (vertices .entry)) (now (proposed .entry)) (now («by_arc» .entry)) (now (shares .entry)) (length (now (proposed .entry)))) (now (out .exit)) r ⌝ }
+    ensures { λ r. ⌜ Put (now (out .entry)) at
+        (memberLines (levelOf «level») (now (vertices .entry)) (now (proposed .entry)) (now («by_arc» .entry))
+        (now (shares .entry)) (length (now (proposed .entry)))) (now (out .exit)) r ⌝ }
 {
     let mut next = at;
     let mut j = 0;

@@ -21,9 +21,11 @@ loop-holds c = listed-start _ _ _ _ _ (c .before .pre .1) refl
 loop-again : tie.Need-loop-again Inv-loop μ-loop
 unfolding groupText bit
 loop-again c =
-    let put = c .before .before .put-if .ensures in
-    let loop = c .before .before .before .before .before .loop in
-    listed-on _ _ _ _ _ (c .before .before .before .before .before .before .before .pre .1) (loop .inv) (c .before .before .before .before .loop-test .taken) refl (put .0) (put .1)
+    let put = c .before .before in
+    let turn = put .before .before in
+    let start = turn .before .before .before in
+    listed-on _ _ _ _ _ (start .pre .1) (turn .before .loop .inv) (turn .loop-test .taken) refl
+    (put .put-if .ensures .0) (put .put-if .ensures .1)
 
 same-length : tie.Need-same-length Inv-loop μ-loop
 same-length c = c .before .loop .inv .put .same-length
@@ -31,7 +33,8 @@ same-length c = c .before .loop .inv .put .same-length
 returns : tie.Need-returns Inv-loop μ-loop
 returns c =
     let done = c .before .loop .inv in
-    (listed-end _ _ _ _ _ (c .before .before .before .pre .1) done (c .loop-test .left), omega (arith, done .short, done .within))
+    let start = c .before .before .before in
+    (listed-end _ _ _ _ _ (start .pre .1) done (c .loop-test .left), omega (arith, done .short, done .within))
 
 pub put-group-spec : {M : Type 1} → statement M
 put-group-spec =

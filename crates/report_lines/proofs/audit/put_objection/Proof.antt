@@ -6,14 +6,15 @@ use Rattle.report_lines.proofs.audit.put_objection.Tie as tie
 
 returns : tie.Need-returns
 returns c =
-    let amount = c .before .before .before .before .before .before .before .before .before .before .before .before .before .before .before .before .before .before .before .before .before .put-labelled .ensures in
-    let size = c .before .before .before .before .before .before .before .before .before .before .before .before .before .before .before .before .put-labelled2 .ensures in
-    let colon = c .before .before .before .before .before .before .before .before .before .before .before .put .ensures in
-    let group = c .before .before .before .before .before .before .before .put-group .ensures in
-    let last = c .before .before .put2 .ensures in (
-      put-then (put-then (put-then (put-then (amount .0) (size .0)) colon) (group .0)) last,
-      omega (arith, amount .1, size .1, colon .ends, group .1, last .ends, c .before .before .before .before .before .before .before .before .before .before .before .before .before .before .before .before .before .before .before .before .before .before .before .before .before .pre .0),
-    )
+    let last = c .before .before in
+    let group = last .before .before .before .before .before in
+    let colon = group .before .before .before .before in
+    let size = colon .before .before .before .before .before in
+    let amount = size .before .before .before .before .before in
+    let start = amount .before .before .before .before in
+    let two = put-then (amount .put-labelled .ensures .0) (size .put-labelled2 .ensures .0) in
+    let four = put-then (put-then two (colon .put .ensures)) (group .put-group .ensures .0) in
+    (put-then four (last .put2 .ensures), omega (arith, start .pre .0))
 
 pub put-objection-spec : {M : Type 1} → statement M
 put-objection-spec =

@@ -7,9 +7,11 @@ use Rattle.report_lines.proofs.audit.put_total.Tie as tie
 
 returns : tie.Need-returns
 returns c =
-    let signed = c .before .before .before .before .before .before .before .put-labelled-signed .ensures in
-    let last = c .before .before .put .ensures in
-    (put-then (rw (toZ-ofZ (c .before .before .before .before .before .before .before .before .before .before .before .fits .difference)) at (signed .0)) last, omega (arith, signed .1, last .ends))
+    let last = c .before .before in
+    let first = last .before .before .before .before .before in
+    let start = first .before .before .before .before in
+    let signed = rw (toZ-ofZ (start .fits .difference)) at (first .put-labelled-signed .ensures .0) in
+    (put-then signed (last .put .ensures), omega arith)
 
 pub put-total-spec : {M : Type 1} → statement M
 put-total-spec =

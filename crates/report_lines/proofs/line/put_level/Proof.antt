@@ -4,10 +4,14 @@ use Rattle.report_lines.proofs.line.put_level.Statement.{statement}
 use Rattle.report_lines.proofs.line.put_level.Tie as tie
 
 returns : tie.Need-returns
-returns c = let put = c .before .before .put .ensures in rw (c .before .before .before .before .before .enum-told .given .1) (put, omega (arith, put .ends))
+returns c =
+    let put = c .before .before in
+    rw (put .before .before .before .enum-told .given .1) (put .put .ensures, omega (arith, put .put .ensures .ends))
 
 returns-2 : tie.Need-returns-2
-returns-2 c = rw (c .before .before .before .before .before .level .given .1) (c .before .before .put-short .ensures)
+returns-2 c =
+    let put = c .before .before in
+    rw (put .before .before .before .level .given .1) (put .put-short .ensures)
 
 pub put-level-spec : {M : Type 1} → statement M
 put-level-spec =

@@ -3,10 +3,14 @@ use Rattle.report_lines.proofs.line.put_needs.Statement.{statement}
 use Rattle.report_lines.proofs.line.put_needs.Tie as tie
 
 returns : tie.Need-returns
-returns c = rw (c .before .before .before .before .before .found .given .1) (c .before .before .put-cost .ensures)
+returns c =
+    let put = c .before .before in
+    rw (put .before .before .before .found .given .1) (put .put-cost .ensures)
 
 returns-2 : tie.Need-returns-2
-returns-2 c = rw (c .before .before .before .before .before .found2 .given .1) (c .before .before .put-refused .ensures)
+returns-2 c =
+    let put = c .before .before in
+    rw (put .before .before .before .found2 .given .1) (put .put-refused .ensures)
 
 pub put-needs-spec : {M : Type 1} → statement M
 put-needs-spec =

@@ -6,10 +6,11 @@ use Rattle.report_lines.proofs.line.put_refused.Tie as tie
 
 returns : tie.Need-returns
 returns c =
-    let first = c .before .before .before .before .before .before .before .before .before .before .before .before .put-labelled .ensures in
-    let second = c .before .before .before .before .before .before .before .put-labelled2 .ensures in
-    let last = c .before .before .put .ensures in
-    (put-then (put-then (first .0) (second .0)) last, omega (arith, first .1, second .1, last .ends))
+    let last = c .before .before in
+    let second = last .before .before .before .before .before in
+    let first = second .before .before .before .before .before in
+    let two = put-then (first .put-labelled .ensures .0) (second .put-labelled2 .ensures .0) in
+    (put-then two (last .put .ensures), omega arith)
 
 pub put-refused-spec : {M : Type 1} → statement M
 put-refused-spec =

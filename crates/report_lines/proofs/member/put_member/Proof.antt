@@ -7,16 +7,17 @@ use Rattle.report_lines.proofs.member.put_member.Tie as tie
 
 returns : tie.Need-returns
 returns c =
-    let number = c .before .before .before .before .before .before .before .before .before .before .before .before .before .before .before .before .before .before .before .before .before .before .before .before .before .before .put-number .ensures in
-    let vertex = c .before .before .before .before .before .before .before .before .before .before .before .before .before .before .before .before .before .before .before .before .before .put-labelled .ensures in
-    let signed = c .before .before .before .before .before .before .before .before .before .before .before .before .before .before .before .before .put-labelled-signed .ensures in
-    let proposed = rw (toZ-ofZ (c .before .before .before .before .before .before .before .before .before .before .before .before .before .before .before .before .before .before .before .before .before .before .before .before .before .before .before .before .before .fits .proposed)) at (signed .0) in
-    let by-arc = c .before .before .before .before .before .before .before .before .before .before .before .put-labelled2 .ensures in
-    let level = c .before .before .before .before .before .before .before .put-share .ensures in
-    let last = c .before .before .put .ensures in (
-      put-then (put-then (put-then (put-then (put-then (number .0) (vertex .0)) proposed) (by-arc .0)) (level .0)) last,
-      omega (arith, number .1, vertex .1, signed .1, by-arc .1, level .1, last .ends),
-    )
+    let last = c .before .before in
+    let level = last .before .before .before .before .before in
+    let by-arc = level .before .before .before .before in
+    let proposed = by-arc .before .before .before .before .before in
+    let vertex = proposed .before .before .before .before .before in
+    let number = vertex .before .before .before .before .before in
+    let start = number .before .before .before in
+    let signed = rw (toZ-ofZ (start .fits .proposed)) at (proposed .put-labelled-signed .ensures .0) in
+    let three = put-then (put-then (number .put-number .ensures .0) (vertex .put-labelled .ensures .0)) signed in
+    let five = put-then (put-then three (by-arc .put-labelled2 .ensures .0)) (level .put-share .ensures .0) in
+    (put-then five (last .put .ensures), omega arith)
 
 pub put-member-spec : {M : Type 1} → statement M
 put-member-spec =

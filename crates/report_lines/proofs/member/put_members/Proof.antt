@@ -24,15 +24,23 @@ loop-holds c = listed-start _ _ _ _ _ (c .before .before .before .before .pre .1
 loop-again : tie.Need-loop-again Inv-loop μ-loop
 unfolding memberLines
 loop-again c =
-    let put = c .before .before .put-member .ensures in
-    let line = rw (toZ-ofZ {w = w64} (record { sfits = c .before .before .before .before .before .put-member-arg2 .given })) at (put .0) in
-    listed-on _ _ _ _ _ (c .before .before .before .before .before .before .before .before .before .before .before .before .before .before .pre .1 .1 .1) (c .before .before .before .before .before .before .before .before .before .loop .inv) (c .before .before .before .before .before .before .before .before .loop-test .taken) refl line (put .1)
+    let put = c .before .before in
+    let arg = put .before .before .before in
+    let turn = arg .before .before .before in
+    let start = turn .before .before .before .before .before .before in
+    let fits = arg .put-member-arg2 .given in
+    let line = rw (toZ-ofZ {w = w64} (record { sfits = fits })) at (put .put-member .ensures .0) in
+    listed-on _ _ _ _ _ (start .pre .1 .1 .1) (turn .before .loop .inv) (turn .loop-test .taken) refl
+    line (put .put-member .ensures .1)
 
 same-length : tie.Need-same-length Inv-loop μ-loop
 same-length c = c .before .loop .inv .put .same-length
 
 returns : tie.Need-returns Inv-loop μ-loop
-returns c = listed-end _ _ _ _ _ (c .before .before .before .before .before .before .pre .1 .1 .1) (c .before .loop .inv) (c .loop-test .left)
+returns c =
+    let loop = c .before in
+    let start = loop .before .before .before .before .before in
+    listed-end _ _ _ _ _ (start .pre .1 .1 .1) (loop .loop .inv) (c .loop-test .left)
 
 pub put-members-spec : {M : Type 1} → statement M
 put-members-spec =
