@@ -27,6 +27,7 @@ abbrev pub roomCheck : ℕ → ℕ → ℕ → ℕ → Check
 roomCheck parents costs caps proposals =
     fault (ltb parents mostArcs || (ltb costs mostArcs || (ltb caps mostArcs || ltb proposals mostArcs))) 10 0
 
+-- the same of the lent lists
 abbrev pub roomIn : Lent → Check
 roomIn l = roomCheck (length (l .parents)) (length (l .costs)) (length (l .caps)) (length (l .proposals))
 

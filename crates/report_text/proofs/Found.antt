@@ -24,7 +24,8 @@ pub few-members : (t : Tree) (n : ℕ) → treeCheck t ≡ accepted → n ≡ me
 few-members t n tree e = rw e (tree-limits t tree .members)
 
 module _ (t : Tree) (tree : treeCheck t ≡ accepted) (out : List ℕ) where
-  pub needs-found : length out ≡ length (t .parents) → needsAnswer t out ≡ value (record { whole = wholeCost (network t); members = memberCount (network t) })
+  pub needs-found : length out ≡ length (t .parents)
+      → needsAnswer t out ≡ value (record { whole = wholeCost (network t); members = memberCount (network t) })
   unfolding needsAnswer
   needs-found e = rw (tree, exact (length (t .parents)) (length out) e)
 

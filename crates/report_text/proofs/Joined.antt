@@ -3,7 +3,7 @@ use Prim.Native.Nat.{ℕ}
 use mathlib.Core.Path.{_≡_}
 use mathlib.Core.List.{List}
 use lib.IntN.{ℤ}
-use Rattle.game.specs.Network.{wholeCost, memberCount, members}
+use Rattle.game.specs.Network.{memberCount, members}
 use Rattle.game.specs.Tree.{Tree, network}
 use Rattle.answer_forms.specs.Answer.{Answer}
 use Rattle.answers.specs.Audit.{Verdict, auditAnswer, auditWords}
@@ -11,19 +11,23 @@ use Rattle.answers.specs.Level.{LevelAnswer, levelAnswer, levelList}
 use Rattle.answers.specs.ByArc.{byArcList}
 use Rattle.text.specs.Put.{Put}
 use Rattle.text.proofs.Pieces.{put-then}
-use Rattle.report_lines.specs.Lines.{costLine, auditLine, levelLine, memberLines}
-use Rattle.report_text.specs.Report.{blank, treeText, splitText}
+use Rattle.report_lines.specs.Lines.{auditLine, levelLine, memberLines}
+use Rattle.report_text.specs.Report.{blank, costText, treeText, splitText}
 
 module _ (t : Tree) (proposed : List ℤ) {a b c : List ℕ} {at e f n : ℕ} (n-is : n ≡ memberCount (network t)) where
-  pub tree-joined : {answer : Answer Verdict} {words : List ℕ} → answer ≡ auditAnswer t proposed → words ≡ auditWords t proposed
-      → Put a at (costLine (wholeCost (network t)) (memberCount (network t))) b e
+  pub tree-joined : {answer : Answer Verdict} {words : List ℕ}
+      → answer ≡ auditAnswer t proposed
+      → words ≡ auditWords t proposed
+      → Put a at (costText t) b e
       → Put b e (auditLine n answer words) c f
       → Put a at (treeText t proposed) c f
   unfolding treeText
   tree-joined answer-is words-is p q = put-then p (rw (n-is, answer-is, words-is) at q)
 
   -- the lists before the splits are all 0
-  pub split-joined : (caps : List ℕ) {level : LevelAnswer} {vertices by-arc shares by-arc₀ shares₀ : List ℕ} → by-arc₀ ≡ blank t → shares₀ ≡ blank t
+  pub split-joined : (caps : List ℕ) {level : LevelAnswer} {vertices by-arc shares by-arc₀ shares₀ : List ℕ}
+      → by-arc₀ ≡ blank t
+      → shares₀ ≡ blank t
       → Put a at (levelLine level) b e
       → Put b e (memberLines level vertices proposed by-arc shares n) c f
       → vertices ≡ members (network t)
@@ -33,4 +37,5 @@ module _ (t : Tree) (proposed : List ℤ) {a b c : List ℕ} {at e f n : ℕ} (n
       → Put a at (splitText t caps proposed) c f
   unfolding splitText
   split-joined caps by-arc₀-is shares₀-is p q vertices-is by-arc-is level-is shares-is =
-      put-then (rw (level-is, shares₀-is) at p) (rw (level-is, vertices-is, by-arc-is, shares-is, n-is, by-arc₀-is, shares₀-is) at q)
+      put-then (rw (level-is, shares₀-is) at p)
+      (rw (level-is, vertices-is, by-arc-is, shares-is, n-is, by-arc₀-is, shares₀-is) at q)

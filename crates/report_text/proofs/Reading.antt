@@ -10,14 +10,14 @@ use Rattle.limits.specs.Limits.{mostArcs}
 use Rattle.game.specs.Network.{memberCount}
 use Rattle.basics.specs.Sum.{entries}
 use Rattle.basics.proofs.Lists.{entries-length, entries-part}
-use Rattle.game.specs.Tree.{treeOf, networkOf}
+use Rattle.game.specs.Tree.{network}
 use Rattle.answer_forms.specs.Answer.{Check, accepted, value, refusal, written}
 use Rattle.answers.specs.Checks.{treeCheck}
 use Rattle.answer_forms.proofs.Composed.{answered, refused-answer}
 use Rattle.job_bytes.specs.Format.{jobParents, jobCosts, jobCaps, jobProposals}
 use Rattle.job.specs.JobCheck.{jobCheck}
 use Rattle.job.specs.Reader.{Lent, JobValue, readCheck, jobValue, jobAnswer, jobLists}
-use Rattle.job.specs.Laws.{Usable}
+use Rattle.job.specs.Laws.{frontTree, Usable}
 use Rattle.job.proofs.Laws.{read-usable}
 use Rattle.report_lines.specs.Lines.{refusedLine}
 use Rattle.report_text.specs.Report.{jobText, reportText}
@@ -28,8 +28,8 @@ pub record Front {A : Type 0} (n : ℕ) (values list : List A) : Type 0 where
   pub taken : take (n - 0) list ≡ values
 
 module _ {A : Type 0} where
-  front : (n : ℕ) (f : ℕ → A) (before rest : List A) {check : Check} {list : List A} → check ≡ accepted → list ≡ written check before (entries n f ++ rest)
-      → Front n (entries n f) list
+  front : (n : ℕ) (f : ℕ → A) (before rest : List A) {check : Check} {list : List A} → check ≡ accepted
+      → list ≡ written check before (entries n f ++ rest) → Front n (entries n f) list
   front n f before rest accept e =
       rw (e, accept)
       (record {
@@ -58,7 +58,8 @@ module _ (bytes : List ℕ) (l : Lent) (room : Roomy l) where
   unfolding readCheck
   checked = rw (room .parents, room .costs, room .caps, room .proposals)
 
-  pub fronts : {v : JobValue} {after : Lent} → value v ≡ jobAnswer bytes l → after ≡ jobLists bytes l → Fronts bytes v after
+  pub fronts : {v : JobValue} {after : Lent} → value v ≡ jobAnswer bytes l → after ≡ jobLists bytes l
+      → Fronts bytes v after
   unfolding jobAnswer jobLists
   fronts {v} is lists =
       let read = answered (readCheck bytes l) (jobValue bytes) v (sym is) in
@@ -71,22 +72,23 @@ module _ (bytes : List ℕ) (l : Lent) (room : Roomy l) where
         usable = rw lists (read-usable bytes l v (sym is));
       }
 
-  pub refused-report : {number place : ℕ} → refusal number place ≡ jobAnswer bytes l → reportText bytes ≡ refusedLine number place
+  pub refused-report : {number place : ℕ} → refusal number place ≡ jobAnswer bytes l
+      → reportText bytes ≡ refusedLine number place
   unfolding reportText jobAnswer
   refused-report is = rw (← checked, refused-answer (readCheck bytes l) (jobValue bytes) is)
 
 -- the parts of the lists that the code hands on
 module _ {bytes : List ℕ} {v : JobValue} {l : Lent} (f : Fronts bytes v l) where
-  pub front-tree : treeCheck (treeOf (take (v .arcs - 0) (l .parents)) (take (v .arcs - 0) (l .costs))) ≡ accepted
+  pub front-tree : treeCheck (frontTree (v .arcs - 0) l) ≡ accepted
   front-tree = rw (sub-zero (v .arcs)) (f .usable .tree)
 
-  pub front-members :
-      length (take (v .members - 0) (l .proposals)) ≡ memberCount (networkOf (take (v .arcs - 0) (l .parents)) (take (v .arcs - 0) (l .costs)))
+  pub front-members : length (take (v .members - 0) (l .proposals)) ≡ memberCount (network (frontTree (v .arcs - 0) l))
   front-members =
-      rw (sub-zero (v .arcs), sub-zero (v .members)) (length-take-le (v .members) (l .proposals) (f .proposals .room) ∙ sym (f .usable .members))
+      rw (sub-zero (v .arcs), sub-zero (v .members))
+      (length-take-le (v .members) (l .proposals) (f .proposals .room) ∙ sym (f .usable .members))
 
   pub front-report :
-      jobText (treeOf (take (v .arcs - 0) (l .parents)) (take (v .arcs - 0) (l .costs))) (take (v .members - 0) (l .caps)) (take (v .members - 0) (l .proposals))
+      jobText (frontTree (v .arcs - 0) l) (take (v .members - 0) (l .caps)) (take (v .members - 0) (l .proposals))
       ≡ reportText bytes
   unfolding reportText
   front-report = rw (f .parents .taken, f .costs .taken, f .caps .taken, f .proposals .taken, f .check)

@@ -24,5 +24,9 @@ use Rattle.report_text.specs.Report.{treeText, splitText, reportText}
 use Rattle.report_text.specs.Table.{ReportTable}
 
 pub table : ReportTable
-unfolding climb used groupCost sumBelow wholeCost membersTo hasChild bit size wordsOf pays groups best named firstLeast units arcsDown giveArc byArcDown arcsCheck treeCheck rangeCheck verdict auditAnswer auditWords shortArc levelAnswer levelList byArcList littleEndian signed64 entries arcOffset memberOffset jobArcs jobMembers version formCheck fillersFrom sharesCheck valuesCheck jobCheck decimalIn decimal signedDecimal groupText memberLines treeText splitText reportText
+unfolding climb used groupCost sumBelow wholeCost membersTo hasChild bit size wordsOf pays groups best named
+    firstLeast units arcsDown giveArc byArcDown arcsCheck treeCheck rangeCheck verdict auditAnswer auditWords
+    shortArc levelAnswer levelList byArcList littleEndian signed64 entries arcOffset memberOffset jobArcs
+    jobMembers version formCheck fillersFrom sharesCheck valuesCheck jobCheck decimalIn decimal signedDecimal
+    groupText memberLines treeText splitText reportText
 table = record { T-report = refl; refused-report = refl }

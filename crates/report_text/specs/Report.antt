@@ -17,10 +17,14 @@ use Rattle.report_lines.specs.Lines.{refusedLine, costLine, auditLine, levelLin
 abbrev pub blank : Tree → List ℕ
 blank t = replicate (memberCount (network t)) 0
 
+-- the line on the tree
+abbrev pub costText : Tree → List ℕ
+costText t = costLine (wholeCost (network t)) (memberCount (network t))
+
 -- the lines on the tree and the proposal
 unfoldable pub treeText : Tree → List ℤ → List ℕ
 treeText t proposed =
-    costLine (wholeCost (network t)) (memberCount (network t)) ++ auditLine (memberCount (network t)) (auditAnswer t proposed) (auditWords t proposed)
+    costText t ++ auditLine (memberCount (network t)) (auditAnswer t proposed) (auditWords t proposed)
 
 -- the lines on the two splits
 unfoldable pub splitText : Tree → List ℕ → List ℤ → List ℕ

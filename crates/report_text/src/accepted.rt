@@ -7,20 +7,20 @@ use report_lines::put_needs;
 ghost use mathlib.Core.Path.{_≡_};
 ghost use Prim.Native.Nat.{_+_, _*_, _≤_};
 ghost use lib.ListN.{length};
-ghost use Rattle.game.specs.Network.{wholeCost, memberCount};
+ghost use Rattle.game.specs.Network.{memberCount};
 ghost use Rattle.game.specs.Tree.{treeOf, networkOf};
 ghost use Rattle.answer_forms.specs.Answer.{accepted};
 ghost use Rattle.answers.specs.Checks.{treeCheck};
 ghost use Rattle.text.specs.Put.{Put};
-ghost use Rattle.report_lines.specs.Lines.{costLine};
-ghost use Rattle.report_text.specs.Report.{blank, treeText, splitText, jobText};
+ghost use Rattle.report_text.specs.Report.{blank, costText, treeText, splitText, jobText};
 
 // `needs` is room for one entry an arc.
 fn put_cost(parents: &[u16], costs: &[u32], needs: &mut [u64], out: &mut [u8], at: usize) -> usize
     requires { ⌜ treeCheck (treeOf (now parents) (now costs)) ≡ accepted ⌝ }
     requires { ⌜ length (now needs) ≡ length (now parents) ⌝ }
     requires { ⌜ at + 100 ≤ length (now out) ⌝ }
-    ensures { λ r. ⌜ Put (now (out .entry)) at (costLine (wholeCost (networkOf (now (parents .entry)) (now (costs .entry)))) (memberCount (networkOf (now (parents .entry)) (now (costs .entry))))) (now (out .exit)) r ⌝ }
+    ensures { λ r. ⌜ Put (now (out .entry)) at
+        (costText (treeOf (now (parents .entry)) (now (costs .entry)))) (now (out .exit)) r ⌝ }
     ensures { λ r. ⌜ r ≤ at + 100 ⌝ }
 {
     put_needs(out, at, engine::list_needs(parents, costs, needs))
@@ -31,7 +31,8 @@ fn put_tree(parents: &[u16], costs: &[u32], proposed: &[i64], out: &mut [u8], at
     requires { ⌜ treeCheck (treeOf (now parents) (now costs)) ≡ accepted ⌝ }
     requires { ⌜ length (now proposed) ≡ memberCount (networkOf (now parents) (now costs)) ⌝ }
     requires { ⌜ at + 22100 ≤ length (now out) ⌝ }
-    ensures { λ r. ⌜ Put (now (out .entry)) at (treeText (treeOf (now (parents .entry)) (now (costs .entry))) (now (proposed .entry))) (now (out .exit)) r ⌝ }
+    ensures { λ r. ⌜ Put (now (out .entry)) at
+        (treeText (treeOf (now (parents .entry)) (now (costs .entry))) (now (proposed .entry))) (now (out .exit)) r ⌝ }
     ensures { λ r. ⌜ r ≤ at + 22100 ⌝ }
 {
     let mut needs = [0u64; MOST_ARCS];
@@ -63,7 +64,9 @@ fn put_splits(
     requires { ⌜ now «by_arc» ≡ blank (treeOf (now parents) (now costs)) ⌝ }
     requires { ⌜ now shares ≡ blank (treeOf (now parents) (now costs)) ⌝ }
     requires { ⌜ at + 100 + 150 * length (now proposed) ≤ length (now out) ⌝ }
-    ensures { λ r. ⌜ Put (now (out .entry)) at (splitText (treeOf (now (parents .entry)) (now (costs .entry))) (now (caps .entry)) (now (proposed .entry))) (now (out .exit)) r ⌝ }
+    ensures { λ r. ⌜ Put (now (out .entry)) at
+        (splitText (treeOf (now (parents .entry)) (now (costs .entry))) (now (caps .entry)) (now (proposed .entry)))
+        (now (out .exit)) r ⌝ }
 {
     engine::list_members(parents, costs, vertices);
     engine::split_by_arc(parents, costs, by_arc);
@@ -83,7 +86,9 @@ pub fn put_job(
     requires { ⌜ treeCheck (treeOf (now parents) (now costs)) ≡ accepted ⌝ }
     requires { ⌜ length (now proposed) ≡ memberCount (networkOf (now parents) (now costs)) ⌝ }
     requires { ⌜ 190000 ≤ length (now out) ⌝ }
-    ensures { λ r. ⌜ Put (now (out .entry)) 0 (jobText (treeOf (now (parents .entry)) (now (costs .entry))) (now (caps .entry)) (now (proposed .entry))) (now (out .exit)) r ⌝ }
+    ensures { λ r. ⌜ Put (now (out .entry)) 0
+        (jobText (treeOf (now (parents .entry)) (now (costs .entry))) (now (caps .entry)) (now (proposed .entry)))
+        (now (out .exit)) r ⌝ }
 {
     let members = proposed.len();
     let mut vertices = [0u16; MOST_ARCS];

@@ -6,8 +6,10 @@ use Rattle.report_text.proofs.accepted.put_cost.Tie as tie
 
 returns : tie.Need-returns
 returns c =
-    let pre = c .before .before .before .before .before .before .before .before .before .before .before .before .pre in
-    rw (c .before .before .before .before .before .list-needs .ensures .0 ∙ needs-found _ (pre .0) _ (pre .1 .0)) at (c .before .before .put-needs .ensures)
+    let put = c .before .before in
+    let listed = put .before .before .before in
+    let pre = listed .before .before .before .before .before .before .before .pre in
+    rw (listed .list-needs .ensures .0 ∙ needs-found _ (pre .0) _ (pre .1 .0)) at (put .put-needs .ensures)
 
 pub put-cost-spec : {M : Type 1} → statement M
 put-cost-spec =

@@ -16,18 +16,27 @@ put-cost-requires c κs =
     let start = c .before .before .before .before .before in
     (start .pre .0, (zeros-length mostArcs _ (tree-limits _ (start .pre .0) .arcs), omega (arith, start .pre)))
 
+abbrev start : tie.After-put-cost → tie.Start
+start c = c .before .before .before .before .before .before
+
 put-audit-requires : tie.Need-put-audit-requires
 put-audit-requires c κs =
-    let start = c .before .before .before .before .before .before .before .before .before .before .before in
-    let cost = c .before .before .before .before .before .put-cost .ensures in
-    (few-members _ _ (start .pre .0) (start .pre .1 .0), omega (arith, start .pre, cost .0 .same-length, cost .1))
+    let cost = c .before .before .before .before .before in
+    let pre = start cost .pre in
+    let put = cost .put-cost .ensures in
+    (few-members _ _ (pre .0) (pre .1 .0), omega (arith, pre, put .0 .same-length, put .1))
 
 returns : tie.Need-returns
 returns c =
-    let audit = c .before .before .before .audit .ensures in
-    let first = c .before .before .before .before .before .before .before .before .put-cost .ensures in
-    let second = c .before .before .put-audit .ensures in
-    (tree-joined _ _ (c .before .before .before .before .before .before .before .before .before .before .before .before .before .before .pre .1 .0) (audit .0) (audit .1) (first .0) (second .0), omega (arith, first .1, second .1))
+    let put = c .before .before in
+    let audit = put .before in
+    let cost = audit .before .before .before .before .before in
+    let found = audit .audit .ensures in
+    let first = cost .put-cost .ensures in
+    let second = put .put-audit .ensures in (
+      tree-joined _ _ (start cost .pre .1 .0) (found .0) (found .1) (first .0) (second .0),
+      omega (arith, first .1, second .1),
+    )
 
 pub put-tree-spec : {M : Type 1} → statement M
 put-tree-spec =
