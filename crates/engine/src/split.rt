@@ -8,9 +8,10 @@ ghost use lib.ListN.{length};
 ghost use Rattle.game.specs.Network.{memberCount};
 ghost use Rattle.game.specs.Tree.{treeOf, networkOf, ofArc};
 ghost use Rattle.game.specs.Level.{level};
-ghost use Rattle.answer_forms.specs.Answer.{accepted};
+ghost use Rattle.answer_forms.specs.Answer.{accepted, _then_};
 ghost use Rattle.answers.specs.Checks.{treeCheck};
 ghost use Rattle.answers.specs.Level.{refusal, capsCheck, shortArc, splitOr9, listAfter, levelAnswer, levelList};
+ghost use Rattle.answer_forms.specs.Checked.{checkOf};
 ghost use Rattle.level.specs.Found.{answerOf};
 ghost use Rattle.engine.specs.Outcomes.{levelOf};
 
@@ -33,6 +34,16 @@ fn refused(r: Refusal) -> LevelSplit
         place: r.place,
         shortfall: 0,
     }
+}
+
+// The first answer where it is a refusal, else the second.
+fn first_refusal(first: Checked, second: Checked) -> Checked
+    ensures { λ r. ⌜ checkOf r ≡ (checkOf first then checkOf second) ⌝ }
+{
+    let Checked::Accepted = first else {
+        return first;
+    };
+    second
 }
 
 // The number of members, or 9.
@@ -61,8 +72,14 @@ fn split_accepted(
     requires { ⌜ capsCheck (memberCount (networkOf (now parents) (now costs))) (now caps) ≡ accepted ⌝ }
     requires { ⌜ length (now vertices) ≡ memberCount (networkOf (now parents) (now costs)) ⌝ }
     requires { ⌜ length (now out) ≡ memberCount (networkOf (now parents) (now costs)) ⌝ }
-    ensures { λ r. ⌜ levelOf r ≡ splitOr9 (networkOf (now (parents .entry)) (now (costs .entry))) (now (caps .entry)) (shortArc (networkOf (now (parents .entry)) (now (costs .entry))) (now (caps .entry)) (length (now (parents .entry)))) ⌝ }
-    ensures { λ r. ⌜ now (out .exit) ≡ listAfter (levelOf r) (now (out .entry)) (level (networkOf (now (parents .entry)) (now (costs .entry))) (now (caps .entry)) (ofArc (now (costs .entry)))) ⌝ }
+    ensures { λ r. ⌜ levelOf r
+        ≡ splitOr9 (networkOf (now (parents .entry)) (now (costs .entry))) (now (caps .entry))
+        (shortArc (networkOf (now (parents .entry)) (now (costs .entry))) (now (caps .entry))
+        (length (now (parents .entry)))) ⌝ }
+    ensures { λ r. ⌜ now (out .exit)
+        ≡ listAfter (levelOf r) (now (out .entry))
+        (level (networkOf (now (parents .entry)) (now (costs .entry))) (now (caps .entry))
+        (ofArc (now (costs .entry)))) ⌝ }
 {
     tree::write_members(parents, vertices);
     let members = vertices.len();
@@ -76,8 +93,10 @@ fn split_accepted(
 
 // Writes one share a member. 1 to 4, 6 and 7 on caps, 8, then 9.
 pub fn split_level(parents: &[u16], costs: &[u32], caps: &[u64], out: &mut [u64]) -> LevelSplit
-    ensures { λ r. ⌜ levelOf r ≡ levelAnswer (treeOf (now (parents .entry)) (now (costs .entry))) (now (caps .entry)) (now (out .entry)) ⌝ }
-    ensures { λ _. ⌜ now (out .exit) ≡ levelList (treeOf (now (parents .entry)) (now (costs .entry))) (now (caps .entry)) (now (out .entry)) ⌝ }
+    ensures { λ r. ⌜ levelOf r
+        ≡ levelAnswer (treeOf (now (parents .entry)) (now (costs .entry))) (now (caps .entry)) (now (out .entry)) ⌝ }
+    ensures { λ _. ⌜ now (out .exit)
+        ≡ levelList (treeOf (now (parents .entry)) (now (costs .entry))) (now (caps .entry)) (now (out .entry)) ⌝ }
 {
     let tree = checks::check_tree(parents, costs);
     let Checked::Accepted = tree else {
@@ -85,12 +104,10 @@ pub fn split_level(parents: &[u16], costs: &[u32], caps: &[u64], out: &mut [u64]
     };
     let members = tree::count_members(parents);
     let limits = checks::check_caps(members, caps);
-    let Checked::Accepted = limits else {
-        return refused(answer_forms::refusal_of(limits));
-    };
     let output = checks::check_output(out.len(), members);
-    let Checked::Accepted = output else {
-        return refused(answer_forms::refusal_of(output));
+    let lists = first_refusal(limits, output);
+    let Checked::Accepted = lists else {
+        return refused(answer_forms::refusal_of(lists));
     };
     let mut vertices = [0u16; MOST_ARCS];
     split_accepted(parents, costs, caps, &mut vertices[0..members], out)

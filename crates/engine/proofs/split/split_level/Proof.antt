@@ -5,78 +5,105 @@ use lib.ListN.{length}
 use denote.Ref.{now}
 use Rattle.limits.specs.Limits.{mostArcs}
 use Rattle.game.specs.Network.{memberCount}
-use Rattle.game.specs.Tree.{treeOf, networkOf}
-use Rattle.answer_forms.specs.Answer.{accepted}
+use Rattle.game.specs.Tree.{Tree, treeOf, network}
+use Rattle.answer_forms.specs.Answer.{Check, accepted, _then_}
 use Rattle.answers.specs.Checks.{treeCheck, lengthCheck}
 use Rattle.answers.specs.Level.{capsCheck}
+use Rattle.answer_forms.proofs.Composed.{first-accepted, second-accepted}
 use Rattle.answers.proofs.Accepted.{tree-accepted, length-accepted}
 use Rattle.answers.proofs.Limits.{members-bound}
 use Rattle.answer_forms.specs.Checked.{checkOf}
 use Rattle.answer_forms.proofs.Opened.{opened, turned-away}
 use Rattle.tree.proofs.Bounds.{sound}
 use Rattle.basics.proofs.Lists.{zeros-length}
-use Rattle.engine.proofs.LevelAnswer.{tree-turned-down, caps-turned-down, output-turned-down, all-accepted}
+use Rattle.engine.proofs.LevelAnswer.{listsCheck, tree-turned-down, lists-turned-down, all-accepted}
 use borrow.Author.Needs.{needs}
 use Rattle.engine.proofs.split.split_level.Statement.{statement}
 use Rattle.engine.proofs.split.split_level.Tie as tie
 
 returns : tie.Need-returns
 returns c =
-    let away = turned-away (c .before .before .before .before .check-tree .ensures) (c .before .before .enum-told2 .given .1) (c .before .refusal-of .ensures) in
-    tree-turned-down (treeOf (now (c .before .before .before .before .before .before .before .before .before .args .parents)) (now (c .before .before .before .before .before .before .before .before .before .args .costs))) (now (c .before .before .before .before .before .before .before .before .before .args .caps)) (now (c .before .before .before .before .before .before .before .before .before .args .out)) away (c .refused .ensures)
+    let away = turned-away (c .before .before .before .before .check-tree .ensures)
+    (c .before .before .enum-told2 .given .1) (c .before .refusal-of .ensures) in
+    tree-turned-down
+    (treeOf (now (c .before .before .before .before .before .before .before .before .before .args .parents))
+    (now (c .before .before .before .before .before .before .before .before .before .args .costs)))
+    (now (c .before .before .before .before .before .before .before .before .before .args .caps))
+    (now (c .before .before .before .before .before .before .before .before .before .args .out)) away
+    (c .refused .ensures)
 
-accepted-tree : (c : tie.After-enum-told) → treeCheck (treeOf (now (c .before .before .before .before .before .before .before .args .parents)) (now (c .before .before .before .before .before .before .before .args .costs))) ≡ accepted
+accepted-tree : (c : tie.After-enum-told)
+    → treeCheck
+    (treeOf (now (c .before .before .before .before .before .before .before .args .parents))
+    (now (c .before .before .before .before .before .before .before .args .costs)))
+    ≡ accepted
 accepted-tree c = opened (c .before .before .check-tree .ensures) (c .enum-told .given .1)
 
 count-members-requires : tie.Need-count-members-requires
 count-members-requires c κs = sound _ (tree-accepted _ (accepted-tree c))
 
--- the caps check asks for a cap a member
-caps-found : (c : tie.After-check-caps) → checkOf (c .check-caps .result) ≡ capsCheck (memberCount (networkOf (now (c .before .before .before .before .before .before .before .before .before .args .parents)) (now (c .before .before .before .before .before .before .before .before .before .args .costs)))) (now (c .before .before .before .before .before .before .before .before .before .args .caps))
-caps-found c = c .check-caps .ensures ∙ ap (λ (n : ℕ). capsCheck n (now (c .before .before .before .before .before .before .before .before .before .args .caps))) (c .before .count-members .ensures)
+-- what is handed in, and the checks on its lists
+abbrev given-tree : tie.Start → Tree
+given-tree s = treeOf (now (s .args .parents)) (now (s .args .costs))
+
+abbrev lists : tie.Start → Check
+lists s = listsCheck (given-tree s) (now (s .args .caps)) (now (s .args .out))
+
+-- from the answer of these checks back to that of the tree's, and to the entry
+abbrev tree-told : tie.After-first-refusal → tie.After-enum-told
+tree-told c = c .before .before .before .before
+
+abbrev start : tie.After-first-refusal → tie.Start
+start c = tree-told c .before .before .before .before .before .before .before
+
+-- each check asks for an entry a member
+lists-found : (c : tie.After-first-refusal) → checkOf (c .first-refusal .result) ≡ lists (start c)
+lists-found c =
+    let given = start c .args in
+    let count = c .before .before .before .count-members .ensures in
+    c .first-refusal .ensures
+    ∙ rw (c .before .before .check-caps .ensures, c .before .check-output .ensures)
+    (ap (λ (n : ℕ). capsCheck n (now (given .caps)) then lengthCheck n (length (now (given .out)))) count)
 
 returns-2 : tie.Need-returns-2
 returns-2 c =
-    let away = turned-away (caps-found (c .before .before .before .before)) (c .before .before .enum-told4 .given .1) (c .before .refusal-of2 .ensures) in
-    caps-turned-down (treeOf (now (c .before .before .before .before .before .before .before .before .before .before .before .before .before .args .parents)) (now (c .before .before .before .before .before .before .before .before .before .before .before .before .before .args .costs))) (now (c .before .before .before .before .before .before .before .before .before .before .before .before .before .args .caps)) (now (c .before .before .before .before .before .before .before .before .before .before .before .before .before .args .out)) (accepted-tree (c .before .before .before .before .before .before)) away (c .refused2 .ensures)
+    let found = c .before .before .before .before in
+    let told = c .before .before .enum-told4 .given .1 in
+    let away = turned-away (lists-found found) told (c .before .refusal-of2 .ensures) in
+    lists-turned-down (given-tree (start found)) _ _ (accepted-tree (tree-told found)) away (c .refused2 .ensures)
 
-accepted-caps : (c : tie.After-enum-told3) → capsCheck (memberCount (networkOf (now (c .before .before .before .before .before .before .before .before .before .before .before .args .parents)) (now (c .before .before .before .before .before .before .before .before .before .before .before .args .costs)))) (now (c .before .before .before .before .before .before .before .before .before .before .before .args .caps)) ≡ accepted
-accepted-caps c = opened (caps-found (c .before .before)) (c .enum-told3 .given .1)
+accepted-lists : (c : tie.After-enum-told3) → lists (start (c .before .before)) ≡ accepted
+accepted-lists c = opened (lists-found (c .before .before)) (c .enum-told3 .given .1)
 
--- the output check asks for as many places as there are members
-output-found : (c : tie.After-check-output) → checkOf (c .check-output .result) ≡ lengthCheck (memberCount (networkOf (now (c .before .before .before .before .before .before .before .before .before .before .before .before .args .parents)) (now (c .before .before .before .before .before .before .before .before .before .before .before .before .args .costs)))) (length (now (c .before .before .before .before .before .before .before .before .before .before .before .before .args .out)))
-output-found c = c .check-output .ensures ∙ ap (λ (n : ℕ). lengthCheck n (length (now (c .before .before .before .before .before .before .before .before .before .before .before .before .args .out)))) (c .before .before .before .before .count-members .ensures)
-
-returns-3 : tie.Need-returns-3
-returns-3 c =
-    let away = turned-away (output-found (c .before .before .before .before)) (c .before .before .enum-told6 .given .1) (c .before .refusal-of3 .ensures) in
-    output-turned-down (treeOf (now (c .before .before .before .before .before .before .before .before .before .before .before .before .before .before .before .before .args .parents)) (now (c .before .before .before .before .before .before .before .before .before .before .before .before .before .before .before .before .args .costs))) (now (c .before .before .before .before .before .before .before .before .before .before .before .before .before .before .before .before .args .caps)) (now (c .before .before .before .before .before .before .before .before .before .before .before .before .before .before .before .before .args .out)) (accepted-tree (c .before .before .before .before .before .before .before .before .before)) (accepted-caps (c .before .before .before .before .before)) away (c .refused3 .ensures)
-
-accepted-output : (c : tie.After-enum-told5) → lengthCheck (memberCount (networkOf (now (c .before .before .before .before .before .before .before .before .before .before .before .before .before .before .args .parents)) (now (c .before .before .before .before .before .before .before .before .before .before .before .before .before .before .args .costs)))) (length (now (c .before .before .before .before .before .before .before .before .before .before .before .before .before .before .args .out))) ≡ accepted
-accepted-output c = opened (output-found (c .before .before)) (c .enum-told5 .given .1)
-
-few-members : (c : tie.After-enum-told5) → c .before .before .before .before .before .before .count-members .result ≤ mostArcs
-few-members c = omega (arith, c .before .before .before .before .before .before .count-members .ensures, members-bound (treeOf (now (c .before .before .before .before .before .before .before .before .before .before .before .before .before .before .args .parents)) (now (c .before .before .before .before .before .before .before .before .before .before .before .before .before .before .args .costs))) (tree-accepted (treeOf (now (c .before .before .before .before .before .before .before .before .before .before .before .before .before .before .args .parents)) (now (c .before .before .before .before .before .before .before .before .before .before .before .before .before .before .args .costs))) (accepted-tree (c .before .before .before .before .before .before .before))))
+few-members : (c : tie.After-enum-told3) → c .before .before .before .before .before .count-members .result ≤ mostArcs
+few-members c =
+    let found = c .before .before in
+    let most = members-bound (given-tree (start found)) (tree-accepted _ (accepted-tree (tree-told found))) in
+    omega (arith, found .before .before .before .count-members .ensures, most)
 
 part-vertices-end : tie.Need-part-vertices-end
 part-vertices-end c = omega (arith, few-members c)
 
 split-accepted-requires : tie.Need-split-accepted-requires
 split-accepted-requires c κs =
-    let at = c .before .before in (
-      accepted-tree (c .before .before .before .before .before .before .before .before .before),
-      (
-        accepted-caps (c .before .before .before .before .before),
-        (
-          zeros-length mostArcs _ (few-members (c .before .before)) ∙ c .before .before .before .before .before .before .before .before .count-members .ensures,
-          length-accepted _ _ (accepted-output (c .before .before)),
-        ),
-      ),
+    let found = c .before .before .before .before in
+    let given = start found .args in
+    let members = memberCount (network (given-tree (start found))) in
+    let limits = capsCheck members (now (given .caps)) in
+    let output = lengthCheck members (length (now (given .out))) in
+    let ok = accepted-lists (c .before .before) in
+    let count = found .before .before .before .count-members .ensures in
+    let room = zeros-length mostArcs _ (few-members (c .before .before)) ∙ count in (
+      accepted-tree (tree-told found),
+      (first-accepted limits output ok, (room, length-accepted _ _ (second-accepted limits output ok))),
     )
 
-returns-4 : tie.Need-returns-4
-returns-4 c =
-    all-accepted (treeOf (now (c .before .before .before .before .before .before .before .before .before .before .before .before .before .before .before .before .before .before .before .before .args .parents)) (now (c .before .before .before .before .before .before .before .before .before .before .before .before .before .before .before .before .before .before .before .before .args .costs))) (now (c .before .before .before .before .before .before .before .before .before .before .before .before .before .before .before .before .before .before .before .before .args .caps)) (now (c .before .before .before .before .before .before .before .before .before .before .before .before .before .before .before .before .before .before .before .before .args .out)) (accepted-tree (c .before .before .before .before .before .before .before .before .before .before .before .before .before)) (accepted-caps (c .before .before .before .before .before .before .before .before .before)) (accepted-output (c .before .before .before .before .before .before)) (c .before .before .before .split-accepted .ensures .0) (c .before .before .before .split-accepted .ensures .1)
+returns-3 : tie.Need-returns-3
+returns-3 c =
+    let found = c .before .before .before .before .before .before .before .before in
+    let split = c .before .before .before .split-accepted in
+    all-accepted (given-tree (start found)) _ _ (accepted-tree (tree-told found))
+    (accepted-lists (c .before .before .before .before .before .before)) (split .ensures .0) (split .ensures .1)
 
 pub split-level-spec : {M : Type 1} → statement M
 split-level-spec =
@@ -90,20 +117,16 @@ split-level-spec =
     returns
     count-members-requires
     (λ c κs. search needs)
+    (λ c κs. search needs)
+    (λ c κs. search needs)
     (λ c. search needs)
     (λ c. search needs)
     (λ c κs. search needs)
     (λ c κs. search needs)
     returns-2
-    (λ c κs. search needs)
-    (λ c. search needs)
-    (λ c. search needs)
-    (λ c κs. search needs)
-    (λ c κs. search needs)
-    returns-3
     (λ c. search needs)
     (λ c. search needs)
     part-vertices-end
     split-accepted-requires
     (λ c. search needs)
-    returns-4)
+    returns-3)
