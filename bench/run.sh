@@ -1,6 +1,7 @@
 #!/usr/bin/env bash
-# Times the archive against Rust, and writes all of docs/PERFORMANCE.md below its line '<!-- bench/run.sh .. -->'.
-# Makes the archive where it is missing or older than the code. Takes about half a minute.
+# Times the archive against Rust and prints the tables: run.sh [write]. With `write` they also replace all of
+# docs/PERFORMANCE.md below its line '<!-- bench/run.sh .. -->'. Makes the archive where it is missing or older than the
+# code. Takes about half a minute.
 set -euo pipefail
 cd "$(dirname "$0")/.."
 PATH="$PATH:${HOME:-}/.cargo/bin"
@@ -11,13 +12,17 @@ out=$(mktemp -d)
 trap 'rm -r "$out"' EXIT
 
 if [ ! -f "$archive" ] || [ -n "$(find crates -name '*.rt' -newer "$archive")" ]; then
+    echo "Making the archive." >&2
     bash build.sh
 fi
+echo "Building the benchmark, then timing it." >&2
 bash outside/build.sh "$archive" "$out/bench" bench/src/main.rs
 {
-    sed '/^<!-- bench\/run.sh/q' "$page"
     processor=$(sed -n '/^model name/{s/^[^:]*: *//p;q}' /proc/cpuinfo)
     printf '\nMeasured on %s, Linux %s, with %s.\n\n' "$processor" "$(uname -m)" "$(rustc --version)"
     "$out/bench"
-} >"$out/page.md"
-cp "$out/page.md" "$page"
+} | tee "$out/tables.md"
+if [ "${1:-}" = write ]; then
+    sed '/^<!-- bench\/run.sh/q' "$page" | cat - "$out/tables.md" >"$out/page.md"
+    cp "$out/page.md" "$page"
+fi

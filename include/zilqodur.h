@@ -32,25 +32,48 @@
 extern "C" {
 #endif
 
-/* The place in brackets; without one it is 0. */
+/* What each refusal says: zilqodur_refusal_text. The place in brackets; without one it is 0. */
 enum ZilqodurRefusal {
     ZILQODUR_NO_REFUSAL = 0,
-    ZILQODUR_ARC_COUNT = 1,      /* the parent list has 0 or more than 1,023 entries */
-    ZILQODUR_TREE_LENGTHS = 2,   /* parent and cost lists differ in length */
-    ZILQODUR_PARENT = 3,         /* a parent is not below its arc's number [arc] */
-    ZILQODUR_COST = 4,           /* a cost is above 1,000,000,000 [arc] */
-    ZILQODUR_GROUP_BIT = 5,      /* a bit stands at or beyond the number of members [lowest such bit] */
-    ZILQODUR_LIST_LENGTH = 6,    /* the length of caps or proposal is not the number of members */
-    ZILQODUR_LIST_RANGE = 7,     /* a cap or a share is outside its range [lowest such member] */
-    ZILQODUR_OUTPUT_LENGTH = 8,  /* the output list's length is not exactly what is written */
-    ZILQODUR_CAPS_SHORT = 9,     /* the caps of an arc's users fall short of its need [arc], with the shortfall */
-    ZILQODUR_JOB_ROOM = 10,      /* a list for the job's values has fewer than 1,023 entries */
-    ZILQODUR_JOB_SIZE = 11,      /* a job has fewer than 16 or more than 24,823 bytes */
-    ZILQODUR_JOB_SIGNATURE = 12, /* wrong version or closing bytes */
-    ZILQODUR_JOB_LAYOUT = 13,    /* arc offset above 255, or rows and trailer do not meet and end exactly */
-    ZILQODUR_JOB_FILLER = 14,    /* a filler is not zero [arc] */
-    ZILQODUR_JOB_MEMBERS = 15    /* the job's number of members differs from its tree's */
+    ZILQODUR_ARC_COUNT = 1,
+    ZILQODUR_TREE_LENGTHS = 2,
+    ZILQODUR_PARENT = 3, /* [arc] */
+    ZILQODUR_COST = 4, /* [arc] */
+    ZILQODUR_GROUP_BIT = 5, /* [lowest such bit] */
+    ZILQODUR_LIST_LENGTH = 6,
+    ZILQODUR_LIST_RANGE = 7, /* [lowest such member] */
+    ZILQODUR_OUTPUT_LENGTH = 8,
+    ZILQODUR_CAPS_SHORT = 9, /* [arc, and the shortfall] */
+    ZILQODUR_JOB_ROOM = 10,
+    ZILQODUR_JOB_SIZE = 11,
+    ZILQODUR_JOB_SIGNATURE = 12,
+    ZILQODUR_JOB_LAYOUT = 13,
+    ZILQODUR_JOB_FILLER = 14, /* [arc] */
+    ZILQODUR_JOB_MEMBERS = 15
 };
+
+/* What a refusal's number says, as a sentence for a person. The strings are constants; nobody frees them. */
+static inline const char *zilqodur_refusal_text(uint32_t refusal) {
+    switch (refusal) {
+        case ZILQODUR_NO_REFUSAL: return "no refusal";
+        case ZILQODUR_ARC_COUNT: return "the parent list has no entry, or more than 1,023";
+        case ZILQODUR_TREE_LENGTHS: return "the parent list and the cost list differ in length";
+        case ZILQODUR_PARENT: return "a parent is not below its arc's number";
+        case ZILQODUR_COST: return "a cost is above 1,000,000,000";
+        case ZILQODUR_GROUP_BIT: return "the group has a bit at or beyond the number of members";
+        case ZILQODUR_LIST_LENGTH: return "the caps or the proposal do not have one entry a member";
+        case ZILQODUR_LIST_RANGE: return "a cap or a proposed share is outside its range";
+        case ZILQODUR_OUTPUT_LENGTH: return "the output list is not exactly as long as what is written";
+        case ZILQODUR_CAPS_SHORT: return "the caps of an arc's users add up to less than its need";
+        case ZILQODUR_JOB_ROOM: return "a list for the job's values has fewer than 1,023 entries";
+        case ZILQODUR_JOB_SIZE: return "the job has fewer than 16 or more than 24,823 bytes";
+        case ZILQODUR_JOB_SIGNATURE: return "the job's version or closing bytes are wrong";
+        case ZILQODUR_JOB_LAYOUT: return "the job's note is longer than 255 bytes, or its parts do not meet and end exactly";
+        case ZILQODUR_JOB_FILLER: return "a filler in the job is not zero";
+        case ZILQODUR_JOB_MEMBERS: return "the job's number of members is not its tree's";
+        default: return "no refusal has this number";
+    }
+}
 
 /* The greatest number of arcs, and so of members, of a tree: the number of entries that zilqodur_read_job asks of each of its four lists. */
 #define ZILQODUR_MOST_ARCS 1023

@@ -1,5 +1,6 @@
 //! Times the archive's entries against the same algorithms in Rust, and the
-//! level split against another algorithm besides. Prints Markdown tables.
+//! level split against another algorithm besides. Prints Markdown tables, and
+//! meanwhile on standard error the network that is timed.
 //!
 //!     bench          compares the answers on each measured network, then times
 //!     bench quick    compares the answers on many networks, and times nothing
@@ -62,6 +63,7 @@ fn compare() -> usize {
 
 /// One shape at all sizes.
 fn measure_shape(shape: Shape, name: &'static str) -> Vec<Row> {
+    eprintln!("{name}");
     let network = |&m: &usize| Network::new(shape, m, m as u64, Caps::Near, COST);
     let networks: Vec<Network> = SIZES.iter().map(network).collect();
     networks.iter().for_each(entries::compare);
