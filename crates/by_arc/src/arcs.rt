@@ -35,7 +35,7 @@ fn split_in(
     write_shares(parents, vertices, each, more, shares);
 }
 
-pub fn split_arcs(parents: &[u16], costs: &[u32], vertices: &[u16], shares: &mut [u64])
+pub fn write_by_arc(parents: &[u16], costs: &[u32], vertices: &[u16], shares: &mut [u64])
     requires { ⌜ treeCheck (treeOf (now parents) (now costs)) ≡ accepted ⌝ }
     requires { ⌜ now vertices ≡ members (networkOf (now parents) []) ⌝ }
     requires { ⌜ length (now shares) ≡ length (now vertices) ⌝ }

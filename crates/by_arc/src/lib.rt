@@ -3,4 +3,4 @@ mod arcs;
 mod divide;
 mod shares;
 
-pub use arcs::split_arcs;
+pub use arcs::write_by_arc;

@@ -16,9 +16,9 @@ use Rattle.capi.specs.declared.check.ZilqodurCheck.{ZilqodurCheck}
 use Rattle.capi.specs.declared.members.ZilqodurMembers.{ZilqodurMembers}
 use Rattle.capi.specs.declared.needs.ZilqodurNeeds.{ZilqodurNeeds}
 use Rattle.capi.specs.declared.group.ZilqodurGroup.{ZilqodurGroup}
-use Rattle.capi.specs.declared.verdict.ZilqodurAudit.{ZilqodurAudit}
-use Rattle.capi.specs.declared.split.ZilqodurLevel.{ZilqodurLevel}
-use Rattle.capi.specs.declared.read.ZilqodurJob.{ZilqodurJob}
+use Rattle.capi.specs.declared.proposal_audit.ZilqodurAudit.{ZilqodurAudit}
+use Rattle.capi.specs.declared.level_split.ZilqodurLevel.{ZilqodurLevel}
+use Rattle.capi.specs.declared.job_read.ZilqodurJob.{ZilqodurJob}
 use Rattle.capi.specs.declared.report.ZilqodurReport.{ZilqodurReport}
 
 -- the value where the refusal's number is 0

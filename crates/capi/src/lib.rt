@@ -1,31 +1,32 @@
 // The public entries for C: each calls one entry and answers a struct of numbers. A refusal of 0 means that there is
 // none.
+mod by_arc_split;
 mod check;
 mod group;
+mod job_read;
+mod level_split;
 mod members;
 mod needs;
-mod read;
+mod proposal_audit;
 mod report;
-mod split;
-mod verdict;
 
+pub use by_arc_split::zilqodur_split_by_arc;
 pub use check::ZilqodurCheck;
 pub use check::zilqodur_check_caps;
 pub use check::zilqodur_check_proposal;
 pub use check::zilqodur_check_tree;
 pub use group::ZilqodurGroup;
 pub use group::zilqodur_group_cost;
+pub use job_read::ZilqodurJob;
+pub use job_read::zilqodur_read_job;
+pub use level_split::ZilqodurLevel;
+pub use level_split::zilqodur_split_level;
 pub use members::ZilqodurMembers;
 pub use members::zilqodur_count_members;
 pub use members::zilqodur_list_members;
-pub use members::zilqodur_split_by_arc;
 pub use needs::ZilqodurNeeds;
 pub use needs::zilqodur_list_needs;
-pub use read::ZilqodurJob;
-pub use read::zilqodur_read_job;
+pub use proposal_audit::ZilqodurAudit;
+pub use proposal_audit::zilqodur_audit;
 pub use report::ZilqodurReport;
 pub use report::zilqodur_report;
-pub use split::ZilqodurLevel;
-pub use split::zilqodur_split_level;
-pub use verdict::ZilqodurAudit;
-pub use verdict::zilqodur_audit;

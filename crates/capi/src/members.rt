@@ -1,9 +1,8 @@
-// The entries that answer the number of members.
+// The number of members, and the members' vertices.
 use engine::MemberCount;
 ghost use mathlib.Core.Path.{_≡_};
 ghost use Rattle.game.specs.Tree.{treeOf};
 ghost use Rattle.answers.specs.Members.{memberCountAnswer, membersAnswer, membersList};
-ghost use Rattle.answers.specs.ByArc.{byArcAnswer, byArcList};
 ghost use Rattle.engine.specs.Outcomes.{memberCountOf};
 ghost use Rattle.capi.specs.Structs.{encodeMembers, decodeMembers};
 
@@ -14,7 +13,7 @@ pub struct ZilqodurMembers {
     pub members: usize,
 }
 
-fn encode(found: MemberCount) -> ZilqodurMembers
+pub fn encode(found: MemberCount) -> ZilqodurMembers
     ensures { λ r. ⌜ r ≡ encodeMembers (memberCountOf found) ⌝ }
 {
     match found {
@@ -52,19 +51,4 @@ pub extern "C" fn zilqodur_list_members(
         ≡ membersList (treeOf (now (parents .entry)) (now (costs .entry))) (now (out .entry)) ⌝ }
 {
     encode(engine::list_members(parents, costs, out))
-}
-
-#[no_mangle]
-pub extern "C" fn zilqodur_split_by_arc(
-    parents: &[u16],
-    costs: &[u32],
-    out: &mut [u64],
-) -> ZilqodurMembers
-    ensures { λ r. ⌜ decodeMembers r
-        ≡ byArcAnswer (treeOf (now (parents .entry)) (now (costs .entry))) (now (out .entry)) ⌝ }
-    ensures { λ r. ⌜ r ≡ encodeMembers (decodeMembers r) ⌝ }
-    ensures { λ _. ⌜ now (out .exit)
-        ≡ byArcList (treeOf (now (parents .entry)) (now (costs .entry))) (now (out .entry)) ⌝ }
-{
-    encode(engine::split_by_arc(parents, costs, out))
 }

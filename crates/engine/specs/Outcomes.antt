@@ -11,10 +11,10 @@ use Rattle.engine.specs.declared.needs.NeedsFound.{NeedsFound}
 use Rattle.engine.specs.declared.needs.NeedsFound.the-variants.{Needs, Refused as NoNeeds}
 use Rattle.engine.specs.declared.group.GroupCost.{GroupCost}
 use Rattle.engine.specs.declared.group.GroupCost.the-variants.{Cost, Refused as NoCost}
-use Rattle.engine.specs.declared.verdict.AuditFound.{AuditFound}
-use Rattle.engine.specs.declared.verdict.AuditFound.the-variants.{WrongTotal, Objection, Pass, Refused as NoAudit}
-use Rattle.engine.specs.declared.split.LevelSplit.{LevelSplit}
-use Rattle.engine.specs.declared.split.LevelSplit.the-variants.{Split, Refused as NoSplit}
+use Rattle.engine.specs.declared.proposal_audit.AuditFound.{AuditFound}
+use Rattle.engine.specs.declared.proposal_audit.AuditFound.the-variants.{WrongTotal, Objection, Pass, Refused as NoAudit}
+use Rattle.engine.specs.declared.level_split.LevelSplit.{LevelSplit}
+use Rattle.engine.specs.declared.level_split.LevelSplit.the-variants.{Split, Refused as NoSplit}
 
 abbrev pub memberCountOf : MemberCount → Answer ℕ
 memberCountOf (Members n) = value n

@@ -67,7 +67,7 @@ fn split_laid_out(
     give_out(parents, costs, caps, starts, counts, order, shares);
 }
 
-pub fn split_arcs(
+pub fn write_level(
     parents: &[u16],
     costs: &[u32],
     vertices: &[u16],

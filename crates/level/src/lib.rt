@@ -2,6 +2,6 @@
 mod arcs;
 mod short;
 
-pub use arcs::split_arcs;
+pub use arcs::write_level;
 pub use short::CapsFound;
 pub use short::find_short;

@@ -1,5 +1,5 @@
 // The cap sums of all arcs: the members' caps at their vertices, added up from below.
-use crate::place::write_all;
+use crate::constant::write_all;
 use crate::sums::add_up;
 ghost use mathlib.Core.Path.{_≡_};
 ghost use mathlib.Core.List.{[]};

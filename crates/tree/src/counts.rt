@@ -1,6 +1,6 @@
 // The number of users of all arcs: the cap sums where every cap is 1.
 use crate::caps::write_cap_sums;
-use crate::place::write_all;
+use crate::constant::write_all;
 ghost use mathlib.Core.Path.{_≡_};
 ghost use mathlib.Core.List.{[]};
 ghost use lib.ListN.{length};
