@@ -24,7 +24,8 @@ module _ {A : Type 0} (s d : List A) (n : ℕ) where
   }
 
   -- a turn
-  pub copied-more : {i : ℕ} {list : List A} (v z : A) → n ≤ length s → n ≤ length d → Copied s d n i list → i < n → v ≡ getD s i z → Copied s d n (i + 1) (set list i v)
+  pub copied-more : {i : ℕ} {list : List A} (v z : A) → n ≤ length s → n ≤ length d → Copied s d n i list
+      → i < n → v ≡ getD s i z → Copied s d n (i + 1) (set list i v)
   copied-more {i} {list} v z hs hd c more e = record {
     long = length-set list i v ∙ c .long;
     within = omega arith;

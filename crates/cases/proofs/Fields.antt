@@ -57,17 +57,21 @@ field-at line at end h e =
     ∙ ap (λ (n : ℕ). take n (drop at line) ∷ fieldsFrom line (end + 1)) long
 
 -- field n, where `rest` are the fields from it on
-pub nth-of : (fields : List (List ℕ)) (n : ℕ) {rest : List (List ℕ)} → rest ≡ drop n fields → getD rest 0 [] ≡ getD fields n []
+pub nth-of : (fields : List (List ℕ)) (n : ℕ) {rest : List (List ℕ)} → rest ≡ drop n fields
+    → getD rest 0 [] ≡ getD fields n []
 nth-of fields n e =
     ap (λ (l : List (List ℕ)). getD l 0 []) e ∙ getD-drop n fields 0 [] ∙ ap (λ (k : ℕ). getD fields k []) (add-zero n)
 
 -- there is a field n where it starts within the line
-pub has-field : (line : List ℕ) (at n : ℕ) → fieldsFrom line at ≡ drop n (fieldsOf line) → leb at (length line) ≡ ltb n (length (fieldsOf line))
+pub has-field : (line : List ℕ) (at n : ℕ) → fieldsFrom line at ≡ drop n (fieldsOf line)
+    → leb at (length line) ≡ ltb n (length (fieldsOf line))
 has-field line at n e = elim (decLe at (length line)) [
   | yes h ↦
       let left : length (drop n (fieldsOf line)) ≡ suc _ = ap length (sym e ∙ field-at line at _ h refl) in
-      le-leb at (length line) h ∙ sym (lt-ltb n (length (fieldsOf line)) (omega (arith, length-drop n (fieldsOf line))))
+      le-leb at (length line) h
+      ∙ sym (lt-ltb n (length (fieldsOf line)) (omega (arith, length-drop n (fieldsOf line))))
   | no h ↦
       let left : length (drop n (fieldsOf line)) ≡ 0 = ap length (sym e ∙ from-past line at (lt-of-not-le h)) in
-      lt-leb at (length line) (lt-of-not-le h) ∙ sym (le-ltb n (length (fieldsOf line)) (omega (arith, length-drop n (fieldsOf line))))
+      lt-leb at (length line) (lt-of-not-le h)
+      ∙ sym (le-ltb n (length (fieldsOf line)) (omega (arith, length-drop n (fieldsOf line))))
 ]

@@ -53,7 +53,8 @@ bytes-length (x ∷ []) = refl
 bytes-length (x ∷ y ∷ s) = omega (arith, bytes-length s)
 
 -- byte i has the digits 2 i and 2 i + 1
-pub bytes-at : (s : List ℕ) (i : ℕ) → 2 * i + 1 < length s → getD (bytesOf s) i 0 ≡ 16 * digitOf (getD s (2 * i) 0) + digitOf (getD s (2 * i + 1) 0)
+pub bytes-at : (s : List ℕ) (i : ℕ) → 2 * i + 1 < length s
+    → getD (bytesOf s) i 0 ≡ 16 * digitOf (getD s (2 * i) 0) + digitOf (getD s (2 * i + 1) 0)
 unfolding bytesOf
 bytes-at [] i h = absurd (not-suc-le-zero h)
 bytes-at (x ∷ []) i h = absurd (omega arith)

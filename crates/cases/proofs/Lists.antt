@@ -8,7 +8,8 @@ use borrow.Author.Count.{below-more}
 use Rattle.cases.specs.Lists.{Front}
 
 -- one entry more
-pub front-more : {n most v : ℕ} {list : List ℕ} → Front n most list → n < length list → v ≤ most → Front (n + 1) most (set list n v)
+pub front-more : {n most v : ℕ} {list : List ℕ} → Front n most list → n < length list → v ≤ most
+    → Front (n + 1) most (set list n v)
 front-more {n} {most} {v} {list} f room h = record {
   within = simp length-set (omega arith);
   small = below-more (λ k. getD (set list n v) k 0 ≤ most) n

@@ -29,16 +29,20 @@ module _ {A : Type 0} (list : List A) (from : ℕ) (value : A) where
   }
 
   -- a turn
-  pub passed-more : {i : ℕ} (z : A) → Passed list from value i → i < length list → getD list i z ≡ value → Passed list from value (i + 1)
+  pub passed-more : {i : ℕ} (z : A) → Passed list from value i → i < length list → getD list i z ≡ value
+      → Passed list from value (i + 1)
   passed-more {i} z p h e = record {
     past = omega arith;
     each = below-more (λ k. from ≤ k → getD list k value ≡ value) i (p .each) (λ l. entry-same list i value z h ∙ e);
   }
 
   -- where it stops
-  pub passed-other : {i : ℕ} (z : A) → Passed list from value i → i < length list → (getD list i z ≡ value → ⊥) → RestIs list from value false
-  passed-other {i} z p h other =
-      (λ e. absurd (true≢false (sym e)), λ rest. absurd (other (entry-same list i z value h ∙ rest .each i (p .past) h)))
+  pub passed-other : {i : ℕ} (z : A) → Passed list from value i → i < length list → (getD list i z ≡ value → ⊥)
+      → RestIs list from value false
+  passed-other {i} z p h other = (
+    λ e. absurd (true≢false (sym e)),
+    λ rest. absurd (other (entry-same list i z value h ∙ rest .each i (p .past) h)),
+  )
 
   -- where it ends
   pub passed-all : {i : ℕ} → Passed list from value i → length list ≤ i → RestIs list from value true

@@ -5,7 +5,8 @@ use mathlib.Core.List.{List, [], _∷_}
 use lib.ListN.{getD, length}
 use Rattle.cases.specs.Fields.{First, fieldsOf}
 use Rattle.vectors.specs.declared.command.Command.{Command}
-use Rattle.vectors.specs.declared.command.Command.the-variants.{Check, Count, Members, Needs, Group, Audit, Shares, Level, Caps, ByArc, Job, Unknown}
+use Rattle.vectors.specs.declared.command.Command.the-variants.{Check, Count, Members, Needs, Group, Audit}
+use Rattle.vectors.specs.declared.command.Command.the-variants.{Shares, Level, Caps, ByArc, Job, Unknown}
 
 -- the commands, in the order of their names
 abbrev pub commands : List Command

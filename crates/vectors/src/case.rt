@@ -1,4 +1,5 @@
-// One case: a command, a tree, and for some commands one field or two more; or a number of members and a list with an entry each; or a job.
+// One case: a command, a tree, and for some commands one field or two more; or a number of members and a list with an
+// entry each; or a job.
 use crate::command;
 use crate::command::Command;
 use crate::job_case;

@@ -20,7 +20,8 @@ pub enum Command {
 }
 
 pub fn named(name: &[u8]) -> Command
-    ensures { λ r. ⌜ Named (ascii "check count members needs group audit shares level caps byarc job") (now (name .entry)) r ⌝ }
+    ensures { λ r. ⌜ Named (ascii "check count members needs group audit shares level caps byarc job")
+        (now (name .entry)) r ⌝ }
 {
     match field::find(
         b"check count members needs group audit shares level caps byarc job",

@@ -1,4 +1,5 @@
-// The cases of the job reader: the lengths of the four lists that it fills, then the job's bytes. Each entry is 9 before the call.
+// The cases of the job reader: the lengths of the four lists that it fills, then the job's bytes. Each entry is 9
+// before the call.
 use crate::print;
 use cases::field;
 use cases::hex;

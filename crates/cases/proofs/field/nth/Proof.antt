@@ -10,14 +10,16 @@ returns : tie.Need-returns
 returns c =
     let a = c .before .before .before .before .args in
     let s = c .before .before .start in
-    nth-of (fieldsOf (a .line .now)) (a .n) (sym (from-past (a .line .now) (s .result) (c .before .if1 .taken)) ∙ s .ensures)
+    let none = from-past (a .line .now) (s .result) (c .before .if1 .taken) in
+    nth-of (fieldsOf (a .line .now)) (a .n) (sym none ∙ s .ensures)
 
 returns-2 : tie.Need-returns-2
 returns-2 c =
     let a = c .before .before .before .before .before .args in
     let s = c .before .before .before .start in
     let f = c .before .find in
-    nth-of (fieldsOf (a .line .now)) (a .n) (sym (field-at (a .line .now) (s .result) (f .result) (c .before .before .if1 .left) (f .ensures .0)) ∙ s .ensures)
+    let here = field-at (a .line .now) (s .result) (f .result) (c .before .before .if1 .left) (f .ensures .0) in
+    nth-of (fieldsOf (a .line .now)) (a .n) (sym here ∙ s .ensures)
 
 pub nth-spec : {M : Type 1} → statement M
 nth-spec =

@@ -19,10 +19,15 @@ loop-holds : tie.Need-loop-holds Inv-loop μ-loop
 loop-holds c = refl
 
 returns : tie.Need-returns Inv-loop μ-loop
-returns c = digits-stop _ _ (c .before .before .before .before .loop .inv) (c .before .before .before .loop-test .taken) (omega (arith, c .before .digit .ensures .0))
+returns c =
+    let turn = c .before .before .before in
+    digits-stop _ _ (turn .before .loop .inv) (turn .loop-test .taken) (omega (arith, c .before .digit .ensures .0))
 
 loop-again : tie.Need-loop-again Inv-loop μ-loop
-loop-again c = digits-on _ _ (c .before .before .before .before .loop .inv) (c .before .before .before .loop-test .taken) (omega (arith, c .before .digit .ensures .0, c .before .digit .ensures .1))
+loop-again c =
+    let turn = c .before .before .before in
+    let digit = c .before .digit .ensures in
+    digits-on _ _ (turn .before .loop .inv) (turn .loop-test .taken) (omega (arith, digit .0, digit .1))
 
 returns-2 : tie.Need-returns-2 Inv-loop μ-loop
 returns-2 c = digits-end _ _ (c .before .loop .inv) (c .loop-test .left)

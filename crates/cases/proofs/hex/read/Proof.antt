@@ -26,8 +26,9 @@ decode-requires c κs =
 
 returns-2 : tie.Need-returns-2
 returns-2 c =
-    let a = c .before .before .before .before .before .before .before .before .args in
-    let is = sym (c .before .before .before .before .before .is-hex .ensures) ∙ not-false _ (c .before .before .before .before .if1 .left) in
+    let test = c .before .before .before .before in
+    let a = test .before .before .before .before .args in
+    let is = sym (test .before .is-hex .ensures) ∙ not-false _ (test .if1 .left) in
     record {
       readable-is = sym is;
       count-is = sym (bytes-length (a .s .now));

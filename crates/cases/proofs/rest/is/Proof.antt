@@ -17,10 +17,14 @@ loop-holds : tie.Need-loop-holds Inv-loop μ-loop
 loop-holds c = passed-none _ _ _
 
 returns : tie.Need-returns Inv-loop μ-loop
-returns c = passed-other _ _ _ 0 (c .before .before .before .loop .inv) (c .before .before .loop-test .taken) (λ e. omega arith)
+returns c =
+    let turn = c .before .before in
+    passed-other _ _ _ 0 (turn .before .loop .inv) (turn .loop-test .taken) (λ e. omega arith)
 
 loop-again : tie.Need-loop-again Inv-loop μ-loop
-loop-again c = passed-more _ _ _ 0 (c .before .before .before .loop .inv) (c .before .before .loop-test .taken) (omega arith)
+loop-again c =
+    let turn = c .before .before in
+    passed-more _ _ _ 0 (turn .before .loop .inv) (turn .loop-test .taken) (omega arith)
 
 returns-2 : tie.Need-returns-2 Inv-loop μ-loop
 returns-2 c = passed-all _ _ _ (c .before .loop .inv) (c .loop-test .left)

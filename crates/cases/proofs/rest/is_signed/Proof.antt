@@ -22,16 +22,22 @@ loop-holds c = passed-none _ _ _
 
 returns : tie.Need-returns Inv-loop μ-loop
 returns c =
-    let back = toZ-ofZ (c .before .before .before .before .fits .value) in
-    rw back at (passed-other _ _ _ (pos 0) (c .before .before .before .loop .inv) (c .before .before .loop-test .taken) (λ e. c .if1 .taken (ap (ofZ w64) (e ∙ back))))
+    let turn = c .before .before in
+    let back = toZ-ofZ (turn .before .before .fits .value) in
+    rw back at
+    (passed-other _ _ _ (pos 0) (turn .before .loop .inv) (turn .loop-test .taken)
+    (λ e. c .if1 .taken (ap (ofZ w64) (e ∙ back))))
 
 loop-again : tie.Need-loop-again Inv-loop μ-loop
 loop-again c =
-    passed-more _ _ _ (pos 0) (c .before .before .before .loop .inv) (c .before .before .loop-test .taken)
+    let turn = c .before .before in
+    passed-more _ _ _ (pos 0) (turn .before .loop .inv) (turn .loop-test .taken)
     (sym (toZ-ofZ {w = w64} (record { sfits = c .before .if12 .given })) ∙ ap (toZ w64) (c .if1 .left))
 
 returns-2 : tie.Need-returns-2 Inv-loop μ-loop
-returns-2 c = rw (toZ-ofZ (c .before .before .fits .value)) at (passed-all _ _ _ (c .before .loop .inv) (c .loop-test .left))
+returns-2 c =
+    let back = toZ-ofZ (c .before .before .fits .value) in
+    rw back at (passed-all _ _ _ (c .before .loop .inv) (c .loop-test .left))
 
 pub is-signed-spec : {M : Type 1} → statement M
 is-signed-spec =

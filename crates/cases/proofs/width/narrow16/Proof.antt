@@ -18,13 +18,16 @@ loop-holds : tie.Need-loop-holds Inv-loop μ-loop
 loop-holds c = let a = c .args in copied-none (a .from .now) (a .to .now) (a .n)
 
 cast-to : tie.Need-cast-to Inv-loop μ-loop
-cast-to c = omega (arith, c .before .before .before .pre .0 .small (c .before .before .loop .i) (c .before .loop-test .taken))
+cast-to c =
+    let turn = c .before in
+    omega (arith, turn .before .before .pre .0 .small (turn .before .loop .i) (turn .loop-test .taken))
 
 loop-again : tie.Need-loop-again Inv-loop μ-loop
 loop-again c =
     let a = c .before .before .before .args in
     let l = c .before .before .loop in
-    copied-more (a .from .now) (a .to .now) (a .n) (getD (a .from .now) (l .i) 0) 0 (omega arith) (omega arith) (l .inv) (c .before .loop-test .taken) refl
+    copied-more (a .from .now) (a .to .now) (a .n) (getD (a .from .now) (l .i) 0) 0 (omega arith) (omega arith)
+    (l .inv) (c .before .loop-test .taken) refl
 
 returns : tie.Need-returns Inv-loop μ-loop
 returns c =

@@ -31,7 +31,9 @@ loop-again c =
     (omega arith)
     (l .inv)
     (c .before .before .loop-test .taken)
-    (toZ-ofZ {w = w64} (record { sfits = c .of-bits .ok }) ∙ c .of-bits .ensures ∙ sym (List·getD-map signed64 (a .from .now) (l .i) 0))
+    (toZ-ofZ {w = w64} (record { sfits = c .of-bits .ok })
+    ∙ c .of-bits .ensures
+    ∙ sym (List·getD-map signed64 (a .from .now) (l .i) 0))
 
 returns : tie.Need-returns Inv-loop μ-loop
 returns c =

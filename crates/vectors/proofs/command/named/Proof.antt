@@ -10,7 +10,8 @@ use Rattle.vectors.specs.Commands.{commands, Named}
 use Rattle.vectors.proofs.command.named.Statement.{statement}
 use Rattle.vectors.proofs.command.named.Tie as tie
 
-at-place : {line name : List ℕ} {r p : ℕ} → First (fieldsOf line) 11 name r → r ≡ p → Named line name (getD commands p Unknown)
+at-place : {line name : List ℕ} {r p : ℕ} → First (fieldsOf line) 11 name r → r ≡ p
+    → Named line name (getD commands p Unknown)
 at-place {r = r} first e = record { place = r; first = first; is = ap (λ (i : ℕ). getD commands i Unknown) (sym e) }
 
 returns : tie.Need-returns

@@ -6,8 +6,11 @@ use Rattle.vectors.proofs.job_case.run.Tie as tie
 
 with-lists-requires : tie.Need-with-lists-requires
 with-lists-requires c κs =
-    let lengths = c .before .before .before .before .before .before .before .before .before .before .before .read .ensures in
-    (lengths .small 0 (omega arith), (lengths .small 1 (omega arith), (lengths .small 2 (omega arith), lengths .small 3 (omega arith))))
+    let bytes = c .before .before .before .before .before .before .before in
+    let lengths = bytes .before .before .before .before .read .ensures in (
+      lengths .small 0 (omega arith),
+      (lengths .small 1 (omega arith), (lengths .small 2 (omega arith), lengths .small 3 (omega arith))),
+    )
 
 pub run-spec : {M : Type 1} → statement M
 run-spec =
