@@ -1,4 +1,7 @@
--- What it means that composed checks are accepted, and what an answer says of its check.
+-- Composed checks and the answers made of them.
+--
+--   first-accepted, second-accepted, no-fault     from an accepted composition to its parts
+--   answered, refused-answer                      from an answer to its check
 use Prim.Native.Nat.{ℕ}
 use mathlib.Core.Path.{_≡_, refl}
 use mathlib.Core.Bool.{Bool, true, false}

@@ -19,24 +19,33 @@ pub record Arcs (k : ℕ) (parents costs : List ℕ) : Type 0 where
   pub rising : (i : ℕ) → getD parents i 0 < k + i
   pub limited : (i : ℕ) → getD costs i 0 ≤ mostCost
 
-arcs-accepted : (k : ℕ) (parents costs : List ℕ) → 0 < k → length parents ≡ length costs → arcsCheck k parents costs ≡ accepted → Arcs k parents costs
+arcs-accepted : (k : ℕ) (parents costs : List ℕ) → 0 < k → length parents ≡ length costs
+    → arcsCheck k parents costs ≡ accepted → Arcs k parents costs
 unfolding arcsCheck
 arcs-accepted k [] [] pos same e = record { rising = λ i. omega arith; limited = λ i. omega arith }
 arcs-accepted k [] (c ∷ costs) pos same e = absurd (omega arith)
 arcs-accepted k (p ∷ parents) [] pos same e = absurd (omega arith)
 arcs-accepted k (p ∷ parents) (c ∷ costs) pos same e =
-    let rest = arcs-accepted (k + 1) parents costs (omega arith) (omega arith) (second-accepted (arcCheck k p c) (arcsCheck (k + 1) parents costs) e) in
+    let rest = arcs-accepted (k + 1) parents costs (omega arith) (omega arith)
+    (second-accepted (arcCheck k p c) (arcsCheck (k + 1) parents costs) e) in
     record { rising = rising (rest .rising); limited = limited (rest .limited) }
   where
     here : arcCheck k p c ≡ accepted
     here = first-accepted (arcCheck k p c) (arcsCheck (k + 1) parents costs) e
 
     rising : ((i : ℕ) → getD parents i 0 < k + 1 + i) → (i : ℕ) → getD (p ∷ parents) i 0 < k + i
-    rising rest zero = omega (arith, leb-false k p (no-fault (leb k p) 3 k (first-accepted (fault (leb k p) 3 k) (fault (ltb mostCost c) 4 k) here)))
+    rising rest zero =
+        omega (
+          arith,
+          leb-false k p
+              (no-fault (leb k p) 3 k (first-accepted (fault (leb k p) 3 k) (fault (ltb mostCost c) 4 k) here)),
+        )
     rising rest (suc i) = omega (arith, rest i)
 
     limited : ((i : ℕ) → getD costs i 0 ≤ mostCost) → (i : ℕ) → getD (c ∷ costs) i 0 ≤ mostCost
-    limited rest zero = ltb-false mostCost c (no-fault (ltb mostCost c) 4 k (second-accepted (fault (leb k p) 3 k) (fault (ltb mostCost c) 4 k) here))
+    limited rest zero =
+        ltb-false mostCost c
+        (no-fault (ltb mostCost c) 4 k (second-accepted (fault (leb k p) 3 k) (fault (ltb mostCost c) 4 k) here))
     limited rest (suc i) = rest i
 
 -- a tree on which no check finds fault
@@ -77,10 +86,13 @@ tree-accepted t e =
     same : length (t .parents) ≡ length (t .costs)
     same =
         eqb-true (length (t .parents)) (length (t .costs))
-        (not-false (eqb (length (t .parents)) (length (t .costs))) (no-fault unlike 2 0 (first-accepted (fault unlike 2 0) (arcsCheck 1 (t .parents) (t .costs)) after)))
+        (not-false (eqb (length (t .parents)) (length (t .costs)))
+        (no-fault unlike 2 0 (first-accepted (fault unlike 2 0) (arcsCheck 1 (t .parents) (t .costs)) after)))
 
     arcs : Arcs 1 (t .parents) (t .costs)
-    arcs = arcs-accepted 1 (t .parents) (t .costs) (omega arith) same (second-accepted (fault unlike 2 0) (arcsCheck 1 (t .parents) (t .costs)) after)
+    arcs =
+        arcs-accepted 1 (t .parents) (t .costs) (omega arith) same
+        (second-accepted (fault unlike 2 0) (arcsCheck 1 (t .parents) (t .costs)) after)
 
     limited : ((i : ℕ) → getD (t .costs) i 0 ≤ mostCost) → (k : ℕ) → ofArc (t .costs) k ≤ mostCost
     limited h zero = omega arith
@@ -88,4 +100,5 @@ tree-accepted t e =
 
 -- an output list that is accepted has the length of what is written
 pub length-accepted : (wanted found : ℕ) → lengthCheck wanted found ≡ accepted → found ≡ wanted
-length-accepted wanted found e = eqb-true found wanted (not-false (eqb found wanted) (no-fault (not (eqb found wanted)) 8 0 e))
+length-accepted wanted found e =
+    eqb-true found wanted (not-false (eqb found wanted) (no-fault (not (eqb found wanted)) 8 0 e))

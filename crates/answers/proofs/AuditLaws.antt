@@ -26,7 +26,8 @@ use Rattle.game.proofs.Overpayment.{overpayment-same}
 use Rattle.game.proofs.Search.{named-good, named-part, named-ends}
 use Rattle.answer_forms.specs.Answer.{Answer, value, accepted}
 use Rattle.answers.specs.Checks.{treeCheck, proposalCheck}
-use Rattle.answers.specs.Audit.{Verdict, wrongTotal, objection, pass, isZero, groupVerdict, searchVerdict, verdict, auditCheck, auditAnswer, auditWords, wordsBeside}
+use Rattle.answers.specs.Audit.{Verdict, wrongTotal, objection, pass, isZero, groupVerdict, searchVerdict}
+use Rattle.answers.specs.Audit.{verdict, auditCheck, auditAnswer, auditWords, wordsBeside}
 use Rattle.answers.specs.AuditLaws.{ObjectionLaws, AuditStatement, theGroup}
 use Rattle.answer_forms.proofs.Composed.{first-accepted}
 use Rattle.answers.proofs.Accepted.{tree-accepted}
@@ -63,7 +64,8 @@ passes-by (pos a) s h = ap (λ (b : Bool). cond b (objection a s) pass) (le-ltb 
 passes-by (negsuc a) s h = refl
 
 objects-by : (o : ℤ) (s : ℕ) → (o ≤ℤ pos 0 → ⊥) → (a : ℕ) × (groupVerdict o s ≡ objection a s)
-objects-by (pos a) s h = elim (decLt 0 a) [ yes l ↦ (a, rw (lt-ltb 0 a l)) | no l ↦ absurd (h (record { le = le→leb a 0 (omega arith) })) ]
+objects-by (pos a) s h =
+    elim (decLt 0 a) [ yes l ↦ (a, rw (lt-ltb 0 a l)) | no l ↦ absurd (h (record { le = le→leb a 0 (omega arith) })) ]
 objects-by (negsuc a) s h = absurd (h (record { le = tt }))
 
 never-total : (o : ℤ) (s : ℕ) {d : ℤ} → groupVerdict o s ≡ wrongTotal d → ⊥
@@ -119,17 +121,20 @@ module _ (t : Tree) (shares : List ℤ) (ok : auditCheck t shares ≡ accepted) 
   most g = named-good n shares g .most
 
   passes-then : auditAnswer t shares ≡ value pass
-      → (pays n shares (λ j. true) ≡ pos (wholeCost n)) × ((g : ℕ → Bool) → pays n shares g ≤ℤ pos (groupCost n (byNumber n g)))
+      → (pays n shares (λ j. true) ≡ pos (wholeCost n))
+      × ((g : ℕ → Bool) → pays n shares g ≤ℤ pos (groupCost n (byNumber n g)))
   passes-then e =
       by-total
       (λ z.
-      let none = passed (overpayment n shares theNamed) (size (memberCount n) theNamed) (sym (right-total z) ∙ verdict-of e) in (
+      let none = passed (overpayment n shares theNamed) (size (memberCount n) theNamed)
+      (sym (right-total z) ∙ verdict-of e) in (
         minus-is (pays n shares (λ j. true)) (wholeCost n) (is-zero (difference n shares) z),
         λ g. minus-le (pays n shares g) (groupCost n (byNumber n g)) (le-trans-ℤ (most g) none),
       ))
       (λ z. absurd (pass-not-total (sym (off-total z) ∙ verdict-of e)))
 
-  passes-where : (pays n shares (λ j. true) ≡ pos (wholeCost n)) × ((g : ℕ → Bool) → pays n shares g ≤ℤ pos (groupCost n (byNumber n g)))
+  passes-where : (pays n shares (λ j. true) ≡ pos (wholeCost n))
+      × ((g : ℕ → Bool) → pays n shares g ≤ℤ pos (groupCost n (byNumber n g)))
       → auditAnswer t shares ≡ value pass
   passes-where h =
       by-total
@@ -144,7 +149,9 @@ module _ (t : Tree) (shares : List ℤ) (ok : auditCheck t shares ≡ accepted) 
   total-then : (d : ℤ) → auditAnswer t shares ≡ value (wrongTotal d) → (difference n shares ≡ d) × (d ≡ pos 0 → ⊥)
   total-then d e =
       by-total
-      (λ z. absurd (never-total (overpayment n shares theNamed) (size (memberCount n) theNamed) (sym (right-total z) ∙ verdict-of e)))
+      (λ z. absurd
+      (never-total (overpayment n shares theNamed) (size (memberCount n) theNamed)
+      (sym (right-total z) ∙ verdict-of e)))
       (λ z.
       let same : difference n shares ≡ d = same-total (sym (off-total z) ∙ verdict-of e) in
       (same, λ f. not-zero (difference n shares) z (same ∙ f)))
@@ -161,7 +168,8 @@ module _ (t : Tree) (shares : List ℤ) (ok : auditCheck t shares ≡ accepted) 
   few : memberCount n ≤ mostArcs
   few = members-bound t (tree-accepted t (first-accepted (treeCheck t) (proposalCheck (memberCount n) shares) ok))
 
-  object-then : (amount members : ℕ) → auditAnswer t shares ≡ value (objection amount members) → ObjectionLaws t shares amount members
+  object-then : (amount members : ℕ) → auditAnswer t shares ≡ value (objection amount members)
+      → ObjectionLaws t shares amount members
   unfolding auditWords
   object-then amount members e =
       record {
@@ -176,7 +184,11 @@ module _ (t : Tree) (shares : List ℤ) (ok : auditCheck t shares ≡ accepted) 
       }
     where
       o : (overpayment n shares theNamed ≡ pos amount) × (0 < amount) × (size (memberCount n) theNamed ≡ members)
-      o = by-total (λ z. objected (overpayment n shares theNamed) (size (memberCount n) theNamed) (sym (right-total z) ∙ verdict-of e)) (λ z. absurd (objection-not-total (sym (off-total z) ∙ verdict-of e)))
+      o =
+          by-total
+          (λ z. objected (overpayment n shares theNamed) (size (memberCount n) theNamed)
+          (sym (right-total z) ∙ verdict-of e))
+          (λ z. absurd (objection-not-total (sym (off-total z) ∙ verdict-of e)))
 
       words : auditWords t shares ≡ wordsOf theNamed
       words = ap (λ (a : Answer Verdict). wordsBeside a (wordsOf theNamed)) e
@@ -233,8 +245,10 @@ module _ (t : Tree) (shares : List ℤ) (ok : auditCheck t shares ≡ accepted) 
   objects-where : ((difference n shares ≡ pos 0) × (g : ℕ → Bool) × (overpayment n shares g ≤ℤ pos 0 → ⊥))
       → (amount : ℕ) × (members : ℕ) × (auditAnswer t shares ≡ value (objection amount members))
   objects-where (right, g, more) =
-      let by = objects-by (overpayment n shares theNamed) (size (memberCount n) theNamed) (λ h. more (le-trans-ℤ (most g) h)) in
-      by-total (λ z. (by .0, size (memberCount n) theNamed, answered ∙ ap value (right-total z ∙ by .1))) (λ z. absurd (not-zero (difference n shares) z right))
+      let by = objects-by (overpayment n shares theNamed) (size (memberCount n) theNamed)
+      (λ h. more (le-trans-ℤ (most g) h)) in
+      by-total (λ z. (by .0, size (memberCount n) theNamed, answered ∙ ap value (right-total z ∙ by .1)))
+      (λ z. absurd (not-zero (difference n shares) z right))
 
 pub audit-laws : AuditStatement
 audit-laws t shares ok =

@@ -85,9 +85,13 @@ by-arc-laws t out ok =
     record {
       one-a-member = ap length (list t out ok) ∙ by-arc-length (network t);
       in-core = core t out ok;
-      passes = audit-laws t (map pos (byArcList t out)) (proposed t out ok) .passes .1 (core t out ok .adds-up, core t out ok .no-group-more);
+      passes =
+          audit-laws t (map pos (byArcList t out)) (proposed t out ok) .passes .1
+          (core t out ok .adds-up, core t out ok .no-group-more);
       near = λ j h.
-          rw (list t out ok, by-arc-at (network t) j h) (even-near (network t) j h (acc t out ok .rooted) (gift (network t)) (gifts t out ok));
+          rw (list t out ok, by-arc-at (network t) j h)
+          (even-near (network t) j h (acc t out ok .rooted) (gift (network t)) (gifts t out ok));
       theorem-1 = shapley-by-arcs (network t);
-      whole-part = λ k a. whole-part (network t) k (some-users t (acc t out ok) k (record { low = a .first; high = a .last }));
+      whole-part =
+          λ k a. whole-part (network t) k (some-users t (acc t out ok) k (record { low = a .first; high = a .last }));
     }

@@ -43,9 +43,18 @@ core-laws t e =
       run-same-bound = λ p k l. rw (← l .parent) (Runs.run-same-bound n (ok .rooted) k (run ok l));
       run-parent-need = λ p k l. rw (← l .parent) (Runs.run-parent-need n (ok .rooted) k (run ok l) (free ok));
       run-need-is-bound = λ p k l. rw (← l .parent) (Runs.run-need-is-bound n (ok .rooted) k (run ok l) (free ok));
-      core-by-bound = λ shares. (core-to-bound n shares, λ c. need-to-core n (ok .rooted) (members-end t) shares (bound-to-need n (ok .rooted) shares c));
-      core-by-need = λ shares. (λ c. bound-to-need n (ok .rooted) shares (core-to-bound n shares c), need-to-core n (ok .rooted) (members-end t) shares);
-      core-not-negative = λ shares c j h. not-negative (share shares j) (core-nonneg n (ok .rooted) (members-end t) shares c j h);
+      core-by-bound =
+          λ shares. (
+            core-to-bound n shares,
+            λ c. need-to-core n (ok .rooted) (members-end t) shares (bound-to-need n (ok .rooted) shares c),
+          );
+      core-by-need =
+          λ shares. (
+            λ c. bound-to-need n (ok .rooted) shares (core-to-bound n shares c),
+            need-to-core n (ok .rooted) (members-end t) shares,
+          );
+      core-not-negative =
+          λ shares c j h. not-negative (share shares j) (core-nonneg n (ok .rooted) (members-end t) shares c j h);
     }
   where
     free : Accepted t → Bounds.UnusedFree (network t)

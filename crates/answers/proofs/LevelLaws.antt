@@ -28,7 +28,8 @@ use Rattle.game.proofs.LevelRule.{Reached, Admits, reached-total}
 use Rattle.game.proofs.LevelList.{view, view-off, Stands, level-stands}
 use Rattle.answer_forms.specs.Answer.{Check, accepted, _then_}
 use Rattle.answers.specs.Checks.{treeCheck, outputCheck}
-use Rattle.answers.specs.Level.{LevelAnswer, split, refusal, capSum, shortArc, splitOr9, capsCheck, levelOr, levelCheck, levelAnswer, levelList, listAfter}
+use Rattle.answers.specs.Level.{LevelAnswer, split, refusal, capSum, shortArc, splitOr9, capsCheck, levelOr}
+use Rattle.answers.specs.Level.{levelCheck, levelAnswer, levelList, listAfter}
 use Rattle.answers.specs.LevelLaws.{Fits, squareSum, ShortAt, LevelLaws, Demand3}
 use Rattle.answer_forms.proofs.Composed.{first-accepted}
 use Rattle.answers.proofs.Accepted.{tree-accepted}
@@ -51,11 +52,13 @@ module _ (t : Tree) (ok : treeCheck t ≡ accepted) (caps : List ℕ) where
     -- by vertex
     square-sum : squareSum t shares ≡ pos (squares (network t .arcs) (over-at (network t) shares))
     square-sum =
-        sum-pos-ℤ (memberCount (network t)) (λ j. share shares j *ℤ share shares j) (λ j. plus (share shares j) * plus (share shares j))
+        sum-pos-ℤ (memberCount (network t)) (λ j. share shares j *ℤ share shares j)
+        (λ j. plus (share shares j) * plus (share shares j))
         (λ j h. square-of (share shares j) (none-less j h))
         ∙ ap pos
         (members-sum (network t .arcs) (network t .member) (λ j. plus (share shares j) * plus (share shares j))
-        ∙ sum-cong (network t .arcs) (λ v i. pick-square (network t .member v) (plus (share shares (number (network t) v)))))
+        ∙ sum-cong (network t .arcs)
+        (λ v i. pick-square (network t .member v) (plus (share shares (number (network t) v)))))
 
   -- a list in the core that keeps the caps is one that the rule's list is compared with
   module _ (shares : List ℤ) (fits : Fits t caps shares) where
@@ -70,16 +73,28 @@ module _ (t : Tree) (ok : treeCheck t ≡ accepted) (caps : List ℕ) where
         let c = pos (getD caps (number (network t) v) 0) in
         let h = number-lt (network t) v i m in
         pick-both-le (network t .member v)
-        (omega (arith, le-less x c (less-parts x) (less-parts c) (fits .keeps-caps (number (network t) v) h), none-less (number (network t) v) h)))
+        (omega (
+          arith,
+          le-less x c (less-parts x) (less-parts c) (fits .keeps-caps (number (network t) v) h),
+          none-less (number (network t) v) h,
+        )))
         (λ (m : network t .member v ≡ false). omega (arith, pick-no (plus (share shares (number (network t) v))) m))
         (both (network t .member v))
 
-    has-need : (k : ℕ) → In (network t .arcs) k → need (network t) k ≤ sumBelow (network t) (over-at (network t) shares) k
-    has-need = enough (network t) rooted (members-end t) shares (bound-to-need (network t) rooted shares (core-to-bound (network t) shares (fits .in-core)))
+    has-need : (k : ℕ) → In (network t .arcs) k
+        → need (network t) k ≤ sumBelow (network t) (over-at (network t) shares) k
+    has-need =
+        enough (network t) rooted (members-end t) shares
+        (bound-to-need (network t) rooted shares (core-to-bound (network t) shares (fits .in-core)))
 
     caps-enough : (k : ℕ) → In (network t .arcs) k → need (network t) k ≤ capSum (network t) caps k
     unfolding sumBelow
-    caps-enough k i = omega (arith, has-need k i, sum-mono (network t .arcs) (λ v j. pick-both-le (atOrBelow (network t) k v) (below-cap v j)))
+    caps-enough k i =
+        omega (
+          arith,
+          has-need k i,
+          sum-mono (network t .arcs) (λ v j. pick-both-le (atOrBelow (network t) k v) (below-cap v j)),
+        )
 
     admits : Admits (network t) (view (network t) caps) (network t .cost) 0 0 (over-at (network t) shares)
     admits =
@@ -115,7 +130,8 @@ module _ (t : Tree) (ok : treeCheck t ≡ accepted) (caps : List ℕ) where
         (members-sum (network t .arcs) (network t .member) (λ j. getD given j 0)
         ∙ reached-total (network t) rooted (view (network t) caps) (network t .cost) (view-off (network t) caps)
         (none-short (network t) caps (network t .arcs) none) (view (network t) given) reached)
-        (λ k i. omega (arith, users-by-vertex (network t) (λ j. getD given j 0) k, reached .kept k (i .first) (i .last)))
+        (λ k i. omega
+        (arith, users-by-vertex (network t) (λ j. getD given j 0) k, reached .kept k (i .first) (i .last)))
 
     keeps-caps : (j : ℕ) → j < memberCount (network t) → share (map pos given) j ≤ℤ pos (getD caps j 0)
     keeps-caps j h =
@@ -135,12 +151,18 @@ module _ (t : Tree) (ok : treeCheck t ≡ accepted) (caps : List ℕ) where
         ))
 
     fits-given : Fits t caps (map pos given)
-    fits-given = record { one-a-member = length-map given pos ∙ stands .sized; in-core = need-to-core (network t) rooted (members-end t) (map pos given) by-need; keeps-caps = keeps-caps }
+    fits-given =
+        record {
+          one-a-member = length-map given pos ∙ stands .sized;
+          in-core = need-to-core (network t) rooted (members-end t) (map pos given) by-need;
+          keeps-caps = keeps-caps;
+        }
 
     least-given : (shares : List ℤ) → Fits t caps shares → squareSum t (map pos given) ≤ℤ squareSum t shares
     least-given shares fits =
         rw (square-sum (map pos given) (λ j h. ap minus (shares-given j)), square-sum shares (none-less shares fits))
-        (less-le (pos (squares (network t .arcs) (over-at (network t) (map pos given)))) (pos (squares (network t .arcs) (over-at (network t) shares)))
+        (less-le (pos (squares (network t .arcs) (over-at (network t) (map pos given))))
+        (pos (squares (network t .arcs) (over-at (network t) shares)))
         (less-parts (pos (squares (network t .arcs) (over-at (network t) (map pos given)))))
         (less-parts (pos (squares (network t .arcs) (over-at (network t) shares))))
         (omega (
@@ -157,7 +179,9 @@ same-refusal e = (cc, cc)
 
 module _ (t : Tree) (caps out : List ℕ) (ok : levelCheck t caps out ≡ accepted) where
   tree-ok : treeCheck t ≡ accepted
-  tree-ok = first-accepted (treeCheck t) (capsCheck (memberCount (network t)) caps then outputCheck (memberCount (network t)) out) ok
+  tree-ok =
+      first-accepted (treeCheck t)
+      (capsCheck (memberCount (network t)) caps then outputCheck (memberCount (network t)) out) ok
 
   answered : levelAnswer t caps out ≡ splitOr9 (network t) caps (shortArc (network t) caps (network t .arcs))
   unfolding levelAnswer
@@ -168,11 +192,16 @@ module _ (t : Tree) (caps out : List ℕ) (ok : levelCheck t caps out ≡ accept
   unfolding levelList given
   no-short none =
       record {
-        refused-exactly =
-            ((λ r. absurd (not-both (sym is-split ∙ r .2))), λ no. absurd (no (map pos (given t tree-ok caps none)) (fits-given t tree-ok caps none)));
+        refused-exactly = (
+          (λ r. absurd (not-both (sym is-split ∙ r .2))),
+          λ no. absurd (no (map pos (given t tree-ok caps none)) (fits-given t tree-ok caps none)),
+        );
         refused-at = λ place shortfall e. absurd (not-both (sym is-split ∙ e));
         given-fits = λ e. subst (λ (l : List ℕ). Fits t caps (map pos l)) (sym list) (fits-given t tree-ok caps none);
-        least-squares = λ e. subst (λ (l : List ℕ). (shares : List ℤ) → Fits t caps shares → squareSum t (map pos l) ≤ℤ squareSum t shares) (sym list) (least-given t tree-ok caps none);
+        least-squares =
+            λ e. subst
+            (λ (l : List ℕ). (shares : List ℤ) → Fits t caps shares → squareSum t (map pos l) ≤ℤ squareSum t shares)
+            (sym list) (least-given t tree-ok caps none);
         one-of-two = inl is-split;
       }
     where
@@ -188,7 +217,8 @@ module _ (t : Tree) (caps out : List ℕ) (ok : levelCheck t caps out ≡ accept
       record {
         refused-exactly = (λ r. none, λ no. (suc a, lacking, is-refusal));
         refused-at = λ place shortfall e.
-            let same = same-refusal (sym is-refusal ∙ e) in subst (λ (p : ℕ). ShortAt t caps p shortfall) (same .0) (subst (ShortAt t caps (suc a)) (same .1) at);
+            let same = same-refusal (sym is-refusal ∙ e) in
+            subst (λ (p : ℕ). ShortAt t caps p shortfall) (same .0) (subst (ShortAt t caps (suc a)) (same .1) at);
         given-fits = λ e. absurd (not-both (sym e ∙ is-refusal));
         least-squares = λ e. absurd (not-both (sym e ∙ is-refusal));
         one-of-two = inr (suc a, lacking, is-refusal);

@@ -13,7 +13,8 @@ use Rattle.answers.proofs.Accepted.{Accepted, tree-accepted}
 module _ (t : Tree) (ok : Accepted t) where
   pub whole-bound : wholeCost (network t) ≤ mostWhole
   unfolding wholeCost
-  whole-bound = omega (arith, sum-bound (length (t .parents)) mostCost {f = ofArc (t .costs)} (λ k i. ok .limited k), ok .few)
+  whole-bound =
+      omega (arith, sum-bound (length (t .parents)) mostCost {f = ofArc (t .costs)} (λ k i. ok .limited k), ok .few)
 
   pub members-bound : memberCount (network t) ≤ mostArcs
   members-bound = omega (arith, count-le (network t .arcs) (network t .member), ok .few)

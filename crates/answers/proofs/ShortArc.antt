@@ -18,7 +18,8 @@ module _ (n : Network) (caps : List ℕ) where
   unfolding shortArc
   short-here k b = ap (λ (x : Bool). cond x (suc k) (shortArc n caps k)) b
 
-  short-below : (k : ℕ) → ltb (capSum n caps (suc k)) (need n (suc k)) ≡ false → shortArc n caps (suc k) ≡ shortArc n caps k
+  short-below : (k : ℕ) → ltb (capSum n caps (suc k)) (need n (suc k)) ≡ false
+      → shortArc n caps (suc k) ≡ shortArc n caps k
   unfolding shortArc
   short-below k b = ap (λ (x : Bool). cond x (suc k) (shortArc n caps k)) b
 
@@ -29,7 +30,8 @@ module _ (n : Network) (caps : List ℕ) where
       (λ (b : ltb (capSum n caps (suc k)) (need n (suc k)) ≡ true). absurd (omega (arith, short-here k b)))
       (λ (b : ltb (capSum n caps (suc k)) (need n (suc k)) ≡ false).
       in-cases k f i (none-short k (sym (short-below k b) ∙ e) f)
-      (λ d. subst (λ (u : ℕ). need n u ≤ capSum n caps u) (sym d) (ltb-false (capSum n caps (suc k)) (need n (suc k)) b)))
+      (λ d. subst (λ (u : ℕ). need n u ≤ capSum n caps u) (sym d)
+      (ltb-false (capSum n caps (suc k)) (need n (suc k)) b)))
       (both (ltb (capSum n caps (suc k)) (need n (suc k))))
 
   -- arc a is short, and no arc above it up to k is
@@ -45,7 +47,11 @@ module _ (n : Network) (caps : List ℕ) where
       ⊎-elim
       (λ (b : ltb (capSum n caps (suc k)) (need n (suc k)) ≡ true).
       subst (FirstShort (suc k)) (sym (short-here k b) ∙ e)
-      (record { within = omega arith; short = ltb-true (capSum n caps (suc k)) (need n (suc k)) b; others = λ f lo hi. absurd (omega arith) }))
+      (record {
+        within = omega arith;
+        short = ltb-true (capSum n caps (suc k)) (need n (suc k)) b;
+        others = λ f lo hi. absurd (omega arith);
+      }))
       (λ (b : ltb (capSum n caps (suc k)) (need n (suc k)) ≡ false).
       let r = first-short k a (sym (short-below k b) ∙ e) in
       record {
@@ -53,7 +59,8 @@ module _ (n : Network) (caps : List ℕ) where
         short = r .short;
         others = λ f lo hi.
             elim (ℕ-discrete f (suc k)) [
-              | yes d ↦ subst (λ (u : ℕ). need n u ≤ capSum n caps u) (sym d) (ltb-false (capSum n caps (suc k)) (need n (suc k)) b)
+              | yes d ↦ subst (λ (u : ℕ). need n u ≤ capSum n caps u) (sym d)
+                  (ltb-false (capSum n caps (suc k)) (need n (suc k)) b)
               | no d ↦ r .others f lo (omega arith)
             ];
       })

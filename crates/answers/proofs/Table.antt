@@ -19,7 +19,10 @@ use Rattle.answers.specs.ByArc.{byArcAnswer, byArcList}
 use Rattle.answers.specs.Table.{Table}
 
 pub table : Table
-unfolding climb used groupCost sumBelow wholeCost membersTo hasChild bit size entries wordsOf pays groups best named arcsCheck treeCheck bitsCheck rangeCheck memberCountAnswer membersAnswer membersList needsAnswer needsList groupCostAnswer verdict auditAnswer auditWords firstLeast units arcsDown shortArc levelAnswer levelList giveArc byArcDown byArcAnswer byArcList
+unfolding climb used groupCost sumBelow wholeCost membersTo hasChild bit size entries wordsOf pays groups best named
+    arcsCheck treeCheck bitsCheck rangeCheck memberCountAnswer membersAnswer membersList needsAnswer needsList
+    groupCostAnswer verdict auditAnswer auditWords firstLeast units arcsDown shortArc levelAnswer levelList giveArc
+    byArcDown byArcAnswer byArcList
 table =
     record {
       T-members = refl;

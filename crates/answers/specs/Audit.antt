@@ -30,7 +30,8 @@ groupVerdict (negsuc a) members = pass
 
 -- the group search by itself: it runs on every proposal, whatever its total
 abbrev pub searchVerdict : Network → List ℤ → Verdict
-searchVerdict n shares = groupVerdict (overpayment n shares (isIn (named n shares))) (size (memberCount n) (isIn (named n shares)))
+searchVerdict n shares =
+    groupVerdict (overpayment n shares (isIn (named n shares))) (size (memberCount n) (isIn (named n shares)))
 
 -- the total check by itself
 abbrev pub addsUp : Network → List ℤ → Bool

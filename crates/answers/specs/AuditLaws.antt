@@ -42,13 +42,16 @@ pub record ObjectionLaws (t : Tree) (shares : List ℤ) (amount members : ℕ) :
 pub record AuditLaws (t : Tree) (shares : List ℤ) : Type 0 where
   -- pass, exactly when the proposal adds up to the whole cost and no group pays more than its own network costs
   pub passes : (auditAnswer t shares ≡ value pass)
-      ↔ ((pays (network t) shares (λ j. true) ≡ pos (wholeCost (network t))) × ((g : ℕ → Bool) → pays (network t) shares g ≤ℤ pos (costOf t g)))
+      ↔ ((pays (network t) shares (λ j. true) ≡ pos (wholeCost (network t)))
+      × ((g : ℕ → Bool) → pays (network t) shares g ≤ℤ pos (costOf t g)))
   -- a wrong total, exactly when the difference is not 0, and with that difference
-  pub wrong-total : (d : ℤ) → (auditAnswer t shares ≡ value (wrongTotal d)) ↔ ((difference (network t) shares ≡ d) × (d ≡ pos 0 → ⊥))
+  pub wrong-total : (d : ℤ)
+      → (auditAnswer t shares ≡ value (wrongTotal d)) ↔ ((difference (network t) shares ≡ d) × (d ≡ pos 0 → ⊥))
   -- an objection, exactly when the total is right and some group's overpayment is above 0
   pub objects-exactly : ((amount : ℕ) × (members : ℕ) × (auditAnswer t shares ≡ value (objection amount members)))
       ↔ ((difference (network t) shares ≡ pos 0) × (g : ℕ → Bool) × (overpayment (network t) shares g ≤ℤ pos 0 → ⊥))
-  pub objects : (amount members : ℕ) → auditAnswer t shares ≡ value (objection amount members) → ObjectionLaws t shares amount members
+  pub objects : (amount members : ℕ) → auditAnswer t shares ≡ value (objection amount members)
+      → ObjectionLaws t shares amount members
 
 abbrev pub AuditStatement : Type 0
 AuditStatement = (t : Tree) (shares : List ℤ) → auditCheck t shares ≡ accepted → AuditLaws t shares

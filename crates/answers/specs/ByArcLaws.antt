@@ -28,12 +28,16 @@ pub record ByArcLaws (t : Tree) (out : List ℕ) : Type 0 where
   pub passes : auditAnswer t (map pos (byArcList t out)) ≡ value pass
   -- n! times a share is less than n! times its path's number of arcs away from n! times the Shapley value
   pub near : (j : ℕ) → j < memberCount (network t)
-      → Within (membersFactorial t * pathLength (network t) j) (membersFactorial t * getD (byArcList t out) j 0) (shapley (network t) j)
+      → Within (membersFactorial t * pathLength (network t) j) (membersFactorial t * getD (byArcList t out) j 0)
+      (shapley (network t) j)
   -- Theorem 1 of the source: the Shapley value divides each arc's cost equally among its users
   pub theorem-1 : (j : ℕ) → j < memberCount (network t)
-      → shapley (network t) j ≡ sum (network t .arcs) (λ k. pick (users (network t) k j) (network t .cost k * (membersFactorial t / userCount (network t) k)))
+      → shapley (network t) j
+      ≡ sum (network t .arcs)
+      (λ k. pick (users (network t) k j) (network t .cost k * (membersFactorial t / userCount (network t) k)))
   -- n! divided by the number of an arc's users is whole
-  pub whole-part : (k : ℕ) → ArcOf t k → userCount (network t) k * (membersFactorial t / userCount (network t) k) ≡ membersFactorial t
+  pub whole-part : (k : ℕ) → ArcOf t k
+      → userCount (network t) k * (membersFactorial t / userCount (network t) k) ≡ membersFactorial t
 
 abbrev pub ByArcStatement : Type 0
 ByArcStatement = (t : Tree) (out : List ℕ) → membersCheck t out ≡ accepted → ByArcLaws t out

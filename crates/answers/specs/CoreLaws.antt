@@ -1,4 +1,5 @@
--- What is proved of the core and of the bounds on every accepted tree, for every list of whole shares, of any size and either sign.
+-- What is proved of the core and of the bounds on every accepted tree, for every list of whole shares, of any size
+-- and either sign.
 use Prim.Native.Nat.{ℕ, _+_, _<_}
 use mathlib.Core.Path.{_≡_}
 use mathlib.Core.Bool.{true, false}
@@ -49,7 +50,8 @@ pub record CoreLaws (t : Tree) : Type 0 where
   -- and by their needs
   pub core-by-need : (shares : List ℤ) → Core (network t) shares ↔ CoreByNeed (network t) shares
   -- no list in the core has a negative share
-  pub core-not-negative : (shares : List ℤ) → Core (network t) shares → (j : ℕ) → j < memberCount (network t) → pos 0 ≤ℤ share shares j
+  pub core-not-negative : (shares : List ℤ) → Core (network t) shares → (j : ℕ) → j < memberCount (network t)
+      → pos 0 ≤ℤ share shares j
 
 abbrev pub CoreStatement : Type 0
 CoreStatement = (t : Tree) → treeCheck t ≡ accepted → CoreLaws t

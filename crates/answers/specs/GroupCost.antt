@@ -17,4 +17,7 @@ pub record GroupCostValue : Type 0 where
 unfoldable pub groupCostAnswer : Tree → List ℕ → Answer GroupCostValue
 groupCostAnswer t words =
     answer (treeCheck t then groupCheck (memberCount (network t)) words)
-    (record { size = size (memberCount (network t)) (bit words); cost = groupCost (network t) (byNumber (network t) (bit words)) })
+    (record {
+      size = size (memberCount (network t)) (bit words);
+      cost = groupCost (network t) (byNumber (network t) (bit words));
+    })

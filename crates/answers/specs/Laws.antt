@@ -30,15 +30,20 @@ PartOf g h = (j : ℕ) → g j ≡ true → h j ≡ true
 
 pub record GameLaws (t : Tree) : Type 0 where
   -- entry j of the members' list is the vertex of member j
-  pub member-at : (v : ℕ) → ArcOf t v → hasChild (t .parents) v ≡ false → getD (members (network t)) (number (network t) v) 0 ≡ v
+  pub member-at : (v : ℕ) → ArcOf t v → hasChild (t .parents) v ≡ false
+      → getD (members (network t)) (number (network t) v) 0 ≡ v
   -- an arc's need is its cost plus the needs of its child arcs
   pub need-of-children : (k : ℕ) → ArcOf t k
-      → need (network t) k ≡ ofArc (t .costs) k + sum (length (t .parents)) (λ u. pick (eqb (ofArc (t .parents) u) k) (need (network t) u))
+      → need (network t) k
+      ≡ ofArc (t .costs) k
+      + sum (length (t .parents)) (λ u. pick (eqb (ofArc (t .parents) u) k) (need (network t) u))
   -- the only user of a member's arc is that member
-  pub users-of-member : (k v : ℕ) → ArcOf t k → ArcOf t v → hasChild (t .parents) k ≡ false → user (network t) k v ≡ eqb k v
+  pub users-of-member : (k v : ℕ) → ArcOf t k → ArcOf t v → hasChild (t .parents) k ≡ false
+      → user (network t) k v ≡ eqb k v
   -- a user of any other arc is a user of one of its child arcs, and of one only
   pub users-of-children : (k v : ℕ) → ArcOf t k → ArcOf t v → hasChild (t .parents) k ≡ true
-      → pick (user (network t) k v) 1 ≡ count (length (t .parents)) (λ u. eqb (ofArc (t .parents) u) k && user (network t) u v)
+      → pick (user (network t) k v) 1
+      ≡ count (length (t .parents)) (λ u. eqb (ofArc (t .parents) u) k && user (network t) u v)
   -- every arc has a user
   pub every-arc-used : (k : ℕ) → ArcOf t k → used (network t) everyone k ≡ true
   -- the group of all costs the whole cost, the empty group 0
@@ -48,7 +53,8 @@ pub record GameLaws (t : Tree) : Type 0 where
   pub larger-costs-no-less : (g h : ℕ → Bool) → PartOf g h → costOf t g ≤ costOf t h
   -- inequality (2) of the source, with the two costs that it takes away added on the other side:
   -- what member i adds to a group is at least what it adds to a larger one
-  pub submodular : (i : ℕ) (g h : ℕ → Bool) → g i ≡ true → PartOf g h → costOf t h + costOf t (without i g) ≤ costOf t g + costOf t (without i h)
+  pub submodular : (i : ℕ) (g h : ℕ → Bool) → g i ≡ true → PartOf g h
+      → costOf t h + costOf t (without i g) ≤ costOf t g + costOf t (without i h)
 
 abbrev pub Laws : Type 0
 Laws = (t : Tree) → treeCheck t ≡ accepted → GameLaws t

@@ -36,7 +36,8 @@ capsCheck = memberListCheck outsideCap
 
 -- 6 and 7 on caps after the tree, then 8
 abbrev pub levelCheck : Tree → List ℕ → List ℕ → Check
-levelCheck t caps out = treeCheck t then capsCheck (memberCount (network t)) caps then outputCheck (memberCount (network t)) out
+levelCheck t caps out =
+    treeCheck t then capsCheck (memberCount (network t)) caps then outputCheck (memberCount (network t)) out
 
 -- 9 where some arc is short
 abbrev pub splitOr9 : Network → List ℕ → ℕ → LevelAnswer
@@ -48,7 +49,8 @@ levelOr accepted answer = answer
 levelOr (refused number place) answer = refusal number place 0
 
 unfoldable pub levelAnswer : Tree → List ℕ → List ℕ → LevelAnswer
-levelAnswer t caps out = levelOr (levelCheck t caps out) (splitOr9 (network t) caps (shortArc (network t) caps (network t .arcs)))
+levelAnswer t caps out =
+    levelOr (levelCheck t caps out) (splitOr9 (network t) caps (shortArc (network t) caps (network t .arcs)))
 
 -- the list afterwards: as it came where the answer is a refusal
 abbrev pub listAfter : LevelAnswer → List ℕ → List ℕ → List ℕ

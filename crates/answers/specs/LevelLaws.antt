@@ -1,5 +1,5 @@
--- Demand 3, about the level split's own answers and lists. A list of whole shares has one whole number a member, of any size and either
--- sign; a group is any set of member numbers.
+-- Demand 3, about the level split's own answers and lists. A list of whole shares has one whole number a member, of
+-- any size and either sign; a group is any set of member numbers.
 use Prim.Native.Nat.{ℕ, _+_, _≤_, _<_}
 use mathlib.Core.Path.{_≡_}
 use mathlib.Core.Logic.{_↔_, _⊎_}
@@ -35,14 +35,18 @@ pub record ShortAt (t : Tree) (caps : List ℕ) (place shortfall : ℕ) : Type 0
 
 pub record LevelLaws (t : Tree) (caps out : List ℕ) : Type 0 where
   -- refused 9, exactly when no list of whole shares in the core keeps the caps
-  pub refused-exactly : ((place : ℕ) × (shortfall : ℕ) × (levelAnswer t caps out ≡ refusal 9 place shortfall)) ↔ ((shares : List ℤ) → Fits t caps shares → ⊥)
-  pub refused-at : (place shortfall : ℕ) → levelAnswer t caps out ≡ refusal 9 place shortfall → ShortAt t caps place shortfall
+  pub refused-exactly : ((place : ℕ) × (shortfall : ℕ) × (levelAnswer t caps out ≡ refusal 9 place shortfall))
+      ↔ ((shares : List ℤ) → Fits t caps shares → ⊥)
+  pub refused-at : (place shortfall : ℕ) → levelAnswer t caps out ≡ refusal 9 place shortfall
+      → ShortAt t caps place shortfall
   -- otherwise the list given is such a list, and every other such list has a sum of squares at least as great
-  pub given-fits : levelAnswer t caps out ≡ split (memberCount (network t)) → Fits t caps (map pos (levelList t caps out))
+  pub given-fits : levelAnswer t caps out ≡ split (memberCount (network t))
+      → Fits t caps (map pos (levelList t caps out))
   pub least-squares : levelAnswer t caps out ≡ split (memberCount (network t)) → (shares : List ℤ) → Fits t caps shares
       → squareSum t (map pos (levelList t caps out)) ≤ℤ squareSum t shares
   -- there is no third answer
-  pub one-of-two : (levelAnswer t caps out ≡ split (memberCount (network t))) ⊎ ((place : ℕ) × (shortfall : ℕ) × (levelAnswer t caps out ≡ refusal 9 place shortfall))
+  pub one-of-two : (levelAnswer t caps out ≡ split (memberCount (network t)))
+      ⊎ ((place : ℕ) × (shortfall : ℕ) × (levelAnswer t caps out ≡ refusal 9 place shortfall))
 
 abbrev pub Demand3 : Type 0
 Demand3 = (t : Tree) (caps out : List ℕ) → levelCheck t caps out ≡ accepted → LevelLaws t caps out

@@ -17,7 +17,8 @@ abbrev pub needsCheck : Tree → List ℕ → Check
 needsCheck t out = treeCheck t then outputCheck (length (t .parents)) out
 
 unfoldable pub needsAnswer : Tree → List ℕ → Answer NeedsValue
-needsAnswer t out = answer (needsCheck t out) (record { whole = wholeCost (network t); members = memberCount (network t) })
+needsAnswer t out =
+    answer (needsCheck t out) (record { whole = wholeCost (network t); members = memberCount (network t) })
 
 unfoldable pub needsList : Tree → List ℕ → List ℕ
 needsList t out = written (needsCheck t out) out (list (length (t .parents)) (need (network t)))

@@ -1,4 +1,12 @@
 -- Laws of tests, and of the amount that a test picks.
+--
+--   both, clash, not-so             a test is true or false, not both
+--   and-both, and-first, or-cases   `&&` and `||` taken apart and put together
+--   same-test                       two tests that imply one another are equal
+--   pick-yes, pick-no               a pick whose test is known
+--   pick-add, pick-parts            a pick of a sum; a test and its negation
+--   pick-and, pick-either           a pick by two tests
+--   pick-same, pick-mono, pick-le   equal and ordered picks
 use Prim.Native.Nat.{ℕ, _+_, _≤_, _<_, zero-le}
 use mathlib.Core.Path.{_≡_, refl, sym, _∙_}
 use mathlib.Core.Bool.{Bool, true, false, not, _&&_, _||_, true≢false, false≢true}
@@ -115,7 +123,8 @@ pick-mono true b x f = rw (f refl) (le-refl x)
 pick-mono false b x f = zero-le
 
 -- where b holds both c and d do, and where a holds one of them does
-pub pick-two : (a b c d : Bool) (x : ℕ) → (b ≡ true → c ≡ true) → (b ≡ true → d ≡ true) → (a ≡ true → (c ≡ true) ⊎ (d ≡ true))
+pub pick-two : (a b c d : Bool) (x : ℕ) → (b ≡ true → c ≡ true) → (b ≡ true → d ≡ true)
+    → (a ≡ true → (c ≡ true) ⊎ (d ≡ true))
     → pick a x + pick b x ≤ pick c x + pick d x
 pick-two a true c d x bc bd acd = rw (bc refl, bd refl) (omega (arith, pick-le a x))
 pick-two true false c d x bc bd acd =

@@ -1,4 +1,12 @@
--- Whole numbers by their parts: `Less x a b` says that x is a less b, and turns sums, orders and equations of whole numbers into such of ℕ.
+-- Whole numbers by their parts. `Less x a b` says that x is a less b; it turns sums, orders and equations of whole
+-- numbers into such of ℕ, where omega decides them.
+--
+--   less-parts, less-sub       a number by its own parts; a difference of two of ℕ
+--   less-minus, less-sum       of a difference, of a sum
+--   less-same, less-is         equal numbers from equal sums, and back
+--   less-le, le-less           ordered numbers from ordered sums, and back
+--   leZ-true, ltZ-true         the tests as orders
+--   sum-pos-ℤ                  a sum of natural numbers
 use Prim.Native.Nat.{ℕ, zero, suc, _+_, _≤_, _<_}
 use mathlib.Core.Path.{_≡_, refl, sym, ap, ap₂, subst}
 use mathlib.Core.Bool.{Bool, true, false, not, false≢true}
@@ -63,7 +71,8 @@ le-less (negsuc x) (negsuc y) h k l = omega (arith, leb→le y x (l .le))
 
 pub le-trans-ℤ : {x y z : ℤ} → x ≤ℤ y → y ≤ℤ z → x ≤ℤ z
 le-trans-ℤ {x} {y} {z} h k =
-    less-le x z (less-parts x) (less-parts z) (omega (arith, le-less x y (less-parts x) (less-parts y) h, le-less y z (less-parts y) (less-parts z) k))
+    less-le x z (less-parts x) (less-parts z)
+    (omega (arith, le-less x y (less-parts x) (less-parts y) h, le-less y z (less-parts y) (less-parts z) k))
 
 -- the tests
 pub leZ-true : (x y : ℤ) → leZ x y ≡ true → x ≤ℤ y
@@ -77,10 +86,16 @@ true-leZ {x} {y} h = holds (leZ x y) (h .le)
     holds false t = absurd t
 
 pub ltZ-true : (x y : ℤ) → ltZ x y ≡ true → (x ≤ℤ y) × (y ≤ℤ x → ⊥)
-ltZ-true (pos a) (pos b) e = (record { le = le→leb a b (omega (arith, ltb-true a b e)) }, λ h. omega (arith, ltb-true a b e, leb→le b a (h .le)))
+ltZ-true (pos a) (pos b) e = (
+  record { le = le→leb a b (omega (arith, ltb-true a b e)) },
+  λ h. omega (arith, ltb-true a b e, leb→le b a (h .le)),
+)
 ltZ-true (pos a) (negsuc b) e = absurd (false≢true e)
 ltZ-true (negsuc a) (pos b) e = (record { le = tt }, λ h. h .le)
-ltZ-true (negsuc a) (negsuc b) e = (record { le = le→leb b a (omega (arith, ltb-true b a e)) }, λ h. omega (arith, ltb-true b a e, leb→le a b (h .le)))
+ltZ-true (negsuc a) (negsuc b) e = (
+  record { le = le→leb b a (omega (arith, ltb-true b a e)) },
+  λ h. omega (arith, ltb-true b a e, leb→le a b (h .le)),
+)
 
 pub ltZ-false : (x y : ℤ) → ltZ x y ≡ false → y ≤ℤ x
 ltZ-false x y e = ltZ-no (subst (λ (b : Bool). T (not b)) (sym e) tt)
@@ -89,7 +104,11 @@ ltZ-false x y e = ltZ-no (subst (λ (b : Bool). T (not b)) (sym e) tt)
 pub minus-le : (x : ℤ) (c : ℕ) → (x -ℤ pos c) ≤ℤ pos 0 → x ≤ℤ pos c
 minus-le x c h =
     less-le x (pos c) (less-parts x) (less-parts (pos c))
-    (omega (arith, le-less (x -ℤ pos c) (pos 0) (less-minus x (pos c) (less-parts x) (less-parts (pos c))) (less-parts (pos 0)) h))
+    (omega (
+      arith,
+      le-less (x -ℤ pos c) (pos 0) (less-minus x (pos c) (less-parts x) (less-parts (pos c)))
+          (less-parts (pos 0)) h,
+    ))
 
 pub le-minus : (x : ℤ) (c : ℕ) → x ≤ℤ pos c → (x -ℤ pos c) ≤ℤ pos 0
 le-minus x c h =

@@ -1,4 +1,9 @@
--- A list from 0 or from 1 by its length and its entries, and as the front of a list; the front of an array of zeros.
+-- The list f 0, f 1, .., f (n - 1) of `entries`, and the list f 1, f 2, .., f m of `list`.
+--
+--   entries-length, entries-at, entries-are   its length; its entry i; a list with these entries is that list
+--   entries-front, entries-part               it as the front of a list, and as the part that code takes
+--   list-length, list-at, list-is             the same of `list`, whose entry i is f (i + 1)
+--   zeros-length                              the front of an array of zeros, lent as a list
 use Prim.Native.Nat.{ℕ, zero, suc, _-_, _<_, _≤_}
 use mathlib.Core.Path.{_≡_, refl, sym, ap, _∙_}
 use mathlib.Core.List.{List, [], _∷_, _++_}

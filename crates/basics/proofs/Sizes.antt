@@ -1,5 +1,9 @@
--- The size of a group: one number more, at most the range, an amount for each member, a range in two parts, from the
--- first number on, equal by points.
+-- The size of a group: how many of the numbers below n are in it.
+--
+--   size-more, size-first    one number more at the end, and at the beginning
+--   size-split               a range in two parts
+--   size-le, size-none       at most the range; nobody
+--   size-same, size-full     equal by points; a part that is no smaller is all of it
 use Prim.Native.Nat.{ℕ, zero, suc, pred, _+_, _*_, _<_, _≤_}
 use mathlib.Core.Path.{_≡_, refl, sym, ap, ap₂, _∙_}
 use mathlib.Core.Bool.{Bool, true, false}
@@ -38,20 +42,24 @@ size-first n g = omega (arith, simp one-add at (size-split 1 n g))
 pub size-same : (n : ℕ) (f g : ℕ → Bool) → ((i : ℕ) → i < n → f i ≡ g i) → size n f ≡ size n g
 unfolding size
 size-same zero f g e = refl
-size-same (suc n) f g e = ap₂ (λ (x : ℕ) (b : Bool). x + pick b 1) (size-same n f g (λ i h. e i (omega arith))) (e n (omega arith))
+size-same (suc n) f g e =
+    ap₂ (λ (x : ℕ) (b : Bool). x + pick b 1) (size-same n f g (λ i h. e i (omega arith))) (e n (omega arith))
 
 size-part : (n : ℕ) (f g : ℕ → Bool) → ((i : ℕ) → i < n → f i ≡ true → g i ≡ true) → size n f ≤ size n g
 unfolding size
 size-part zero f g h = omega arith
-size-part (suc n) f g h = omega (arith, size-part n f g (λ i l. h i (omega arith)), pick-mono (f n) (g n) 1 (h n (omega arith)))
+size-part (suc n) f g h =
+    omega (arith, size-part n f g (λ i l. h i (omega arith)), pick-mono (f n) (g n) 1 (h n (omega arith)))
 
 -- a part with no fewer members is the whole
-pub size-full : (n : ℕ) (f g : ℕ → Bool) → ((i : ℕ) → i < n → f i ≡ true → g i ≡ true) → size n g ≤ size n f → (i : ℕ) → i < n → g i ≡ true → f i ≡ true
+pub size-full : (n : ℕ) (f g : ℕ → Bool) → ((i : ℕ) → i < n → f i ≡ true → g i ≡ true) → size n g ≤ size n f → (i : ℕ)
+    → i < n → g i ≡ true → f i ≡ true
 unfolding size
 size-full zero f g h l i b e = absurd (omega arith)
 size-full (suc n) f g h l i b e =
     elim (decLt i n) [
-      | yes c ↦ size-full n f g (λ i l. h i (omega arith)) (omega (arith, pick-mono (f n) (g n) 1 (h n (omega arith)))) i c e
+      | yes c ↦ size-full n f g (λ i l. h i (omega arith))
+          (omega (arith, pick-mono (f n) (g n) 1 (h n (omega arith)))) i c e
       | no c ↦ last (omega arith)
     ]
   where

@@ -1,4 +1,13 @@
--- Laws of sums and tests over 1 to m, and of sums over the numbers below n.
+-- Laws of sums and tests over 1 to m. `In m k` says that k is one of 1 to m.
+--
+--   sum-cong, sum-mono, sum-zero      equal by points, ordered by points, 0 at each point
+--   sum-add, sum-times, sum-pick      of a sum, with a factor, under one test
+--   sum-swap                          two sums exchanged
+--   sum-at, term-le                   the one term that a test leaves; a term is at most the sum
+--   sum-parts, sum-longer, sum-bound  by a test and its negation; a longer range; a bound
+--   some-of, some-is                  `some` from a witness, and a witness `Some` from it
+--   sum-pos, sum-more-some            a term that makes a sum positive, or greater than another
+--   sum₀-is                           a sum from 0 as one from 1; its laws sum₀-add and so on come from there
 use Prim.Native.Nat.{ℕ, zero, suc, pred, _+_, _*_, _≤_, _<_, zero-le}
 use mathlib.Core.Path.{_≡_, refl, sym, ap, ap₂, _∙_}
 use mathlib.Core.Bool.{Bool, true, false, not, _||_, false≢true}
@@ -9,7 +18,8 @@ use native.Mathlib.Omega.{arith}
 use borrow.Author.Tests.{eq-eqb, ne-eqb, lt-ltb}
 use lib.Dec.{eqb, ltb, eqb·suc-suc}
 use Rattle.basics.specs.Sum.{pick, sum, count, some, sum₀}
-use Rattle.basics.proofs.Bools.{pick-zero, pick-add, pick-parts, pick-yes, pick-no, pick-le, or-first, or-second, or-cases}
+use Rattle.basics.proofs.Bools.{pick-zero, pick-add, pick-parts, pick-yes, pick-no, pick-le, or-first}
+use Rattle.basics.proofs.Bools.{or-second, or-cases}
 
 -- k is one of 1 to m
 pub record In (m k : ℕ) : Type 0 where
@@ -54,7 +64,8 @@ sum-zero (suc m) {f} h = omega (arith, sum-zero m {f = f} (λ k i. h k (in-more 
 pub sum-swap : (m n : ℕ) (f : ℕ → ℕ → ℕ) → sum m (λ k. sum n (λ v. f k v)) ≡ sum n (λ v. sum m (λ k. f k v))
 sum-swap zero n f = sym (sum-zero n (λ k i. refl))
 sum-swap (suc m) n f =
-    ap (λ (s : ℕ). s + sum n (λ v. f (suc m) v)) (sum-swap m n f) ∙ sym (sum-add n (λ v. sum m (λ k. f k v)) (λ v. f (suc m) v))
+    ap (λ (s : ℕ). s + sum n (λ v. f (suc m) v)) (sum-swap m n f)
+    ∙ sym (sum-add n (λ v. sum m (λ k. f k v)) (λ v. f (suc m) v))
 
 pub sum-pick : (b : Bool) (m : ℕ) (f : ℕ → ℕ) → sum m (λ k. pick b (f k)) ≡ pick b (sum m f)
 sum-pick b zero f = sym (pick-zero b)
@@ -65,7 +76,8 @@ pub in-cases : {A : Type 0} (m k : ℕ) → In (suc m) k → (In m k → A) → 
 in-cases m k i before last = elim (decLe k m) [ yes h ↦ before (omega arith) | no h ↦ last (omega arith) ]
 
 -- what a test picks and what it leaves
-pub sum-parts : (m : ℕ) (s : ℕ → Bool) (f : ℕ → ℕ) → sum m (λ k. pick (s k) (f k)) + sum m (λ k. pick (not (s k)) (f k)) ≡ sum m f
+pub sum-parts : (m : ℕ) (s : ℕ → Bool) (f : ℕ → ℕ)
+    → sum m (λ k. pick (s k) (f k)) + sum m (λ k. pick (not (s k)) (f k)) ≡ sum m f
 sum-parts m s f =
     sym (sum-add m (λ k. pick (s k) (f k)) (λ k. pick (not (s k)) (f k))) ∙ sum-cong m (λ k i. pick-parts (s k) (f k))
 
@@ -89,7 +101,8 @@ term-le (suc m) k f i = in-cases m k i (λ j. omega (arith, term-le m k f j)) (�
 
 pub sum-bound : (m b : ℕ) {f : ℕ → ℕ} → ((k : ℕ) → In m k → f k ≤ b) → sum m f ≤ m * b
 sum-bound zero b h = zero-le
-sum-bound (suc m) b {f} h = rw suc-mul (omega (arith, sum-bound m b {f = f} (λ k i. h k (in-more i)), h (suc m) (in-last m)))
+sum-bound (suc m) b {f} h =
+    rw suc-mul (omega (arith, sum-bound m b {f = f} (λ k i. h k (in-more i)), h (suc m) (in-last m)))
 
 pub count-le : (m : ℕ) (b : ℕ → Bool) → count m b ≤ m
 count-le zero b = le-refl 0

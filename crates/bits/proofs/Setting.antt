@@ -50,7 +50,8 @@ bit-set words w i j g h d =
       | yes e ↦
           rw (e, getD-set-same words (j / 64) w 0 (omega (arith, ap length g, words-length (bit words))), d (i % 64))
           (ap (λ b. digit (getD words (j / 64) 0) (i % 64) || b) (same-place e))
-      | no n ↦ rw (getD-set-other words (j / 64) (i / 64) w 0 n, ne-eqb i j (λ e. n (ap (λ (x : ℕ). x / 64) e)), or-false)
+      | no n ↦ rw
+          (getD-set-other words (j / 64) (i / 64) w 0 n, ne-eqb i j (λ e. n (ap (λ (x : ℕ). x / 64) e)), or-false)
     ]
   where
     same-place : i / 64 ≡ j / 64 → eqb (i % 64) (j % 64) ≡ eqb i j

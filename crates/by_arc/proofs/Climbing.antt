@@ -29,15 +29,18 @@ unit-left s r =
 
 module _ (n : Network) (rooted : Rooted n) where
   -- arc k is v's own, or above v's parent, and never both
-  above-pick : (k v x : ℕ) → pick (atOrBelow n k (suc v)) x ≡ pick (eqb (suc v) k) x + pick (atOrBelow n k (n .parent (suc v))) x
+  above-pick : (k v x : ℕ)
+      → pick (atOrBelow n k (suc v)) x ≡ pick (eqb (suc v) k) x + pick (atOrBelow n k (n .parent (suc v))) x
   above-pick k v x =
-      below-pick n rooted k v x ∙ ap (λ (b : Bool). pick b x + pick (atOrBelow n k (n .parent (suc v))) x) (eqb-comm k (suc v))
+      below-pick n rooted k v x
+      ∙ ap (λ (b : Bool). pick b x + pick (atOrBelow n k (n .parent (suc v))) x) (eqb-comm k (suc v))
 
   above-source : (x : ℕ → ℕ) → sumAbove n x 0 ≡ 0
   unfolding sumAbove
   above-source x = sum-zero (n .arcs) (λ k i. pick-no (x k) (below-source n rooted k ∙ ne-eqb k 0 (λ e. omega arith)))
 
-  above-step : (x : ℕ → ℕ) (v : ℕ) → suc v ≤ n .arcs → sumAbove n x (suc v) ≡ x (suc v) + sumAbove n x (n .parent (suc v))
+  above-step : (x : ℕ → ℕ) (v : ℕ) → suc v ≤ n .arcs
+      → sumAbove n x (suc v) ≡ x (suc v) + sumAbove n x (n .parent (suc v))
   unfolding sumAbove
   above-step x v h =
       sum-cong (n .arcs) (λ k i. above-pick k v (x k))
@@ -58,11 +61,13 @@ module _ (ps each more₀ : List ℕ) (v : ℕ) where
     pub kept : length more ≡ length ps
     pub summed : share + sumAbove n gives k ≡ sumAbove n gives v
     pub ahead : (i : ℕ) → i < k → getD more i 0 ≡ getD more₀ i 0
-    pub passed : (i : ℕ) → getD more i 0 - pick (atOrBelow n (suc i) k) 1 ≡ getD more₀ i 0 - pick (atOrBelow n (suc i) v) 1
+    pub passed : (i : ℕ)
+        → getD more i 0 - pick (atOrBelow n (suc i) k) 1 ≡ getD more₀ i 0 - pick (atOrBelow n (suc i) v) 1
 
   module _ (sound : Sound ps) (parts : Parts (length ps) each more₀) where
     pub climbing-start : v ≤ length ps → Climbing more₀ 0 v
-    climbing-start h = record { within = h; kept = parts .units; summed = omega arith; ahead = λ i l. refl; passed = λ i. refl }
+    climbing-start h =
+        record { within = h; kept = parts .units; summed = omega arith; ahead = λ i l. refl; passed = λ i. refl }
 
     module _ {more : List ℕ} {share k : ℕ} (at : Climbing more share k) (u : ℕ) (next : k ≡ suc u) where
       s : Climbing more share (suc u)
@@ -94,14 +99,19 @@ module _ (ps each more₀ : List ℕ) (v : ℕ) where
                   e,
                   s .ahead u (omega arith),
                 );
-            ahead = λ i l. getD-set-other more u i rest 0 (λ d. omega (arith, sound .rising u)) ∙ s .ahead i (omega (arith, sound .rising u));
+            ahead =
+                λ i l. getD-set-other more u i rest 0 (λ d. omega (arith, sound .rising u))
+                ∙ s .ahead i (omega (arith, sound .rising u));
             passed = λ i. elim (ℕ-discrete i u) [ yes d ↦ rw d here | no d ↦ other i d ];
           }
         where
-          step : (i : ℕ) → pick (atOrBelow n (suc i) (suc u)) 1 ≡ pick (eqb (suc u) (suc i)) 1 + pick (atOrBelow n (suc i) (getD ps u 0)) 1
+          step : (i : ℕ)
+              → pick (atOrBelow n (suc i) (suc u)) 1
+              ≡ pick (eqb (suc u) (suc i)) 1 + pick (atOrBelow n (suc i) (getD ps u 0)) 1
           step i = above-pick n (sound .rising) (suc i) u 1
 
-          here : getD (set more u rest) u 0 - pick (atOrBelow n (suc u) (getD ps u 0)) 1 ≡ getD more₀ u 0 - pick (atOrBelow n (suc u) v) 1
+          here : getD (set more u rest) u 0 - pick (atOrBelow n (suc u) (getD ps u 0)) 1
+              ≡ getD more₀ u 0 - pick (atOrBelow n (suc u) v) 1
           here =
               omega (
                 arith,
@@ -113,7 +123,9 @@ module _ (ps each more₀ : List ℕ) (v : ℕ) where
                 s .passed u,
               )
 
-          other : (i : ℕ) → (i ≡ u → ⊥) → getD (set more u rest) i 0 - pick (atOrBelow n (suc i) (getD ps u 0)) 1 ≡ getD more₀ i 0 - pick (atOrBelow n (suc i) v) 1
+          other : (i : ℕ) → (i ≡ u → ⊥)
+              → getD (set more u rest) i 0 - pick (atOrBelow n (suc i) (getD ps u 0)) 1
+              ≡ getD more₀ i 0 - pick (atOrBelow n (suc i) v) 1
           other i d =
               omega (
                 arith,
@@ -130,4 +142,9 @@ module _ (ps each more₀ : List ℕ) (v : ℕ) where
       pub climbing-rest : more ≡ oneLess n more₀ v
       climbing-rest =
           list-is (λ i. ofArc more₀ i - pick (atOrBelow n i v) 1) 0 (length ps) more (s .kept)
-          (λ i h. omega (arith, s .passed i, ap (λ (u : ℕ). pick (atOrBelow n (suc i) u) 1) end, pick-no 1 (below-source n (sound .rising) (suc i) ∙ ne-eqb (suc i) 0 (λ e. omega arith))))
+          (λ i h. omega (
+            arith,
+            s .passed i,
+            ap (λ (u : ℕ). pick (atOrBelow n (suc i) u) 1) end,
+            pick-no 1 (below-source n (sound .rising) (suc i) ∙ ne-eqb (suc i) 0 (λ e. omega arith)),
+          ))

@@ -40,7 +40,8 @@ module _ (ps each more₀ shares₀ : List ℕ) where
       serving-parts = record { parts = parts .parts; units = s .kept; limited = parts .limited }
 
       -- member j at its vertex v
-      pub serving-on : j < length shares₀ → (v : ℕ) → v ≡ getD (members n) j 0 → (share : ℕ) → share ≡ sumAbove n (given (ofArc each) (ofArc more)) v
+      pub serving-on : j < length shares₀ → (v : ℕ) → v ≡ getD (members n) j 0 → (share : ℕ)
+          → share ≡ sumAbove n (given (ofArc each) (ofArc more)) v
           → {after : List ℕ} → after ≡ oneLess n more v → Serving after (set shares j share) (j + 1)
       unfolding sumAbove
       serving-on h v own share e {after} f =
@@ -56,7 +57,11 @@ module _ (ps each more₀ shares₀ : List ℕ) where
                   size-more j (users n k),
                   ap (λ (u : ℕ). left n more₀ u k) (add-one j),
                 );
-            served = filling-on _ _ (s .served) h share (e ∙ rw own (sum-cong (length ps) (λ k i. ap (λ (x : ℕ). pick (users n k j) (given (ofArc each) (λ u. x) k)) (s .units k i))));
+            served =
+                filling-on _ _ (s .served) h share
+                (e ∙ rw own
+                (sum-cong (length ps)
+                (λ k i. ap (λ (x : ℕ). pick (users n k j) (given (ofArc each) (λ u. x) k)) (s .units k i))));
           }
 
       pub serving-end : length shares₀ ≤ j → shares ≡ entries (length shares₀) (dealt n each more₀)

@@ -44,7 +44,13 @@ module _ (t : Tree) (ok : Accepted t) where
           record {
             parts = ap length divided ∙ list-length _ (length (t .costs)) ∙ sym (ok .same);
             units = ap length over ∙ list-length _ (length (t .costs)) ∙ sym (ok .same);
-            limited = λ k lo hi. omega (arith, by-count (λ a b. a / b) divided k (omega arith), div-le-self (n .cost k) (userCount n k), ok .limited k);
+            limited =
+                λ k lo hi. omega (
+                  arith,
+                  by-count (λ a b. a / b) divided k (omega arith),
+                  div-le-self (n .cost k) (userCount n k),
+                  ok .limited k,
+                );
           }
 
       -- the dealing does not look at the costs

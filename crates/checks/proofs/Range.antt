@@ -16,14 +16,16 @@ use Rattle.answer_forms.specs.declared.Refusal.{Refusal}
 use Rattle.answer_forms.specs.declared.Checked.{Checked}
 use Rattle.answer_forms.specs.declared.Checked.the-variants.{Accepted, Refused}
 
-pub range-end : {A : Type 0} (outside : A → Bool) (j i : ℕ) (l : List A) → length l ≤ i → rangeCheck outside j (drop i l) ≡ accepted
+pub range-end : {A : Type 0} (outside : A → Bool) (j i : ℕ) (l : List A) → length l ≤ i
+    → rangeCheck outside j (drop i l) ≡ accepted
 unfolding rangeCheck
 range-end outside j i l h = rw (drop-of-length-le l h)
 
 -- d stands for an entry past the end
 module _ {A : Type 0} (outside : A → Bool) (d : A) where
   range-step : (j i : ℕ) (l : List A) → i < length l
-      → rangeCheck outside j (drop i l) ≡ (fault (outside (getD l i d)) 7 j then rangeCheck outside (j + 1) (drop (i + 1) l))
+      → rangeCheck outside j (drop i l)
+      ≡ (fault (outside (getD l i d)) 7 j then rangeCheck outside (j + 1) (drop (i + 1) l))
   unfolding rangeCheck
   range-step j i l h = rw (add-one i, drop-cons l i d h)
 
@@ -39,10 +41,12 @@ module _ {A : Type 0} (outside : A → Bool) (d : A) where
     pub range-stop : {x : Refusal} → r ≡ Refused x → checkOf r ≡ found
     range-stop e = rw (turn, e)
 
-  range-inside : (j : ℕ) (l : List A) → outside d ≡ false → rangeCheck outside j l ≡ accepted → (i : ℕ) → outside (getD l i d) ≡ false
+  range-inside : (j : ℕ) (l : List A) → outside d ≡ false → rangeCheck outside j l ≡ accepted → (i : ℕ)
+      → outside (getD l i d) ≡ false
   unfolding rangeCheck
   range-inside j [] past e i = past
-  range-inside j (x ∷ l) past e zero = no-fault (outside x) 7 j (first-accepted (fault (outside x) 7 j) (rangeCheck outside (j + 1) l) e)
+  range-inside j (x ∷ l) past e zero =
+      no-fault (outside x) 7 j (first-accepted (fault (outside x) 7 j) (rangeCheck outside (j + 1) l) e)
   range-inside j (x ∷ l) past e (suc i) =
       range-inside (j + 1) l past (second-accepted (fault (outside x) 7 j) (rangeCheck outside (j + 1) l) e) i
 
@@ -51,11 +55,14 @@ module _ {A : Type 0} (outside : A → Bool) (d : A) where
     pub same : length l ≡ members
     pub inside : (i : ℕ) → outside (getD l i d) ≡ false
 
-  pub list-accepted : (members : ℕ) (l : List A) → outside d ≡ false → memberListCheck outside members l ≡ accepted → Inside members l
+  pub list-accepted : (members : ℕ) (l : List A) → outside d ≡ false → memberListCheck outside members l ≡ accepted
+      → Inside members l
   list-accepted members l past e =
       record {
         same =
-            eqb-true (length l) members (not-false (eqb (length l) members) (no-fault unlike 6 0 (first-accepted (fault unlike 6 0) (rangeCheck outside 0 l) e)));
+            eqb-true (length l) members
+            (not-false (eqb (length l) members)
+            (no-fault unlike 6 0 (first-accepted (fault unlike 6 0) (rangeCheck outside 0 l) e)));
         inside = range-inside 0 l past (second-accepted (fault unlike 6 0) (rangeCheck outside 0 l) e);
       }
     where

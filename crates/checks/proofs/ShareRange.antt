@@ -17,6 +17,7 @@ pub high-outside : (z : ℤ) → ltZ (pos mostShare) z ≡ true → outsideShare
 high-outside (pos a) e = e
 high-outside (negsuc a) e = absurd (false≢true e)
 
-pub neither-outside : (z : ℤ) → ltZ z (negℤ (pos mostShare)) ≡ false → ltZ (pos mostShare) z ≡ false → outsideShare z ≡ false
+pub neither-outside : (z : ℤ) → ltZ z (negℤ (pos mostShare)) ≡ false → ltZ (pos mostShare) z ≡ false
+    → outsideShare z ≡ false
 neither-outside (pos a) low high = high
 neither-outside (negsuc a) low high = le-ltb mostShare (suc a) (omega (arith, ltb-false (pred mostShare) a low))

@@ -17,10 +17,16 @@ use Rattle.fill.specs.Fill.{mostKey, Numbers, taken, filled, Greatest, r
 use Rattle.fill.proofs.Listed.{list-length, number-below, listed}
 use Rattle.fill.proofs.Turns.{raised-length, raised-entry}
 
-module _ (n : Network) (k : ℕ) (us : List ℕ) (lists : Lists n k us) (caps shares : List ℕ) (sized : length caps ≡ memberCount n) (few : memberCount n ≤ mostArcs)
+module _ (n : Network) (k : ℕ) (us : List ℕ) (lists : Lists n k us) (caps shares : List ℕ)
+    (sized : length caps ≡ memberCount n) (few : memberCount n ≤ mostArcs)
     (same : length shares ≡ length caps) where
   pub lists-numbers : Numbers us caps shares
-  lists-numbers = record { few = omega (arith, list-length n k us lists); numbered = λ i h. omega (arith, number-below n k us lists i h); same = same }
+  lists-numbers =
+      record {
+        few = omega (arith, list-length n k us lists);
+        numbered = λ i h. omega (arith, number-below n k us lists i h);
+        same = same;
+      }
 
   at-key : (key : ℕ) → filled us caps shares key ≡ fill n caps k shares (key / 1024) (key % 1024)
   at-key key = lists .sums (taken caps shares key)
@@ -32,14 +38,27 @@ module _ (n : Network) (k : ℕ) (us : List ℕ) (lists : Lists n k us) (caps sh
         | yes h ↦
             let level : (key + 1) / 1024 ≡ key / 1024 = omega arith in
             let bound : (key + 1) % 1024 ≡ suc (key % 1024) = omega arith in
-            omega (arith, at-key key, at-key (key + 1), ap₂ (fill n caps k shares) level bound, fill-step n caps k shares (key / 1024) (key % 1024))
+            omega (
+              arith,
+              at-key key,
+              at-key (key + 1),
+              ap₂ (fill n caps k shares) level bound,
+              fill-step n caps k shares (key / 1024) (key % 1024),
+            )
         | no h ↦
             let level : (key + 1) / 1024 ≡ suc (key / 1024) = omega arith in
             let bound : (key + 1) % 1024 ≡ 0 = omega arith in
-            omega (arith, at-key key, at-key (key + 1), ap₂ (fill n caps k shares) level bound, fill-next-level n caps k shares (key / 1024) (key % 1024) (omega arith))
+            omega (
+              arith,
+              at-key key,
+              at-key (key + 1),
+              ap₂ (fill n caps k shares) level bound,
+              fill-next-level n caps k shares (key / 1024) (key % 1024) (omega arith),
+            )
       ]
 
-  module _ (amount key : ℕ) (room : amount ≤ fill n caps k shares mostShare 0) (greatest : Greatest us caps shares amount key) where
+  module _ (amount key : ℕ) (room : amount ≤ fill n caps k shares mostShare 0)
+      (greatest : Greatest us caps shares amount key) where
     whole : fill n caps k shares (key / 1024) (key % 1024) ≡ amount
     whole =
         elim (decLt key mostKey) [
@@ -57,12 +76,18 @@ module _ (n : Network) (k : ℕ) (us : List ℕ) (lists : Lists n k us) (caps sh
 
     raised-units : raised caps key us shares ≡ units n caps k amount shares
     raised-units =
-        ext-getD 0 (raised caps key us shares) (units n caps k amount shares) (raised-length caps key us shares ∙ same ∙ sized ∙ sym (by-unit .sized))
+        ext-getD 0 (raised caps key us shares) (units n caps k amount shares)
+        (raised-length caps key us shares ∙ same ∙ sized ∙ sym (by-unit .sized))
         (λ j h.
         let within : j < memberCount n = omega (arith, raised-length caps key us shares) in
-        raised-entry caps key us (users n k j) shares j (omega arith) (listed n k us lists j within) ∙ sym (by-unit .raised j within))
+        raised-entry caps key us (users n k j) shares j (omega arith) (listed n k us lists j within)
+        ∙ sym (by-unit .raised j within))
 
-pub given-out : {us caps shares after : List ℕ} {amount key : ℕ} → Numbers us caps shares → Greatest us caps shares amount key → after ≡ raised caps key us shares
+pub given-out : {us caps shares after : List ℕ} {amount key : ℕ} → Numbers us caps shares
+    → Greatest us caps shares amount key → after ≡ raised caps key us shares
     → GivenOut us caps amount shares after
 given-out {us} {caps} {shares} {after} {amount} {key} numbers greatest is =
-    record { is = λ n k lists sized few room. is ∙ raised-units n k us lists caps shares sized few (numbers .same) amount key room greatest }
+    record {
+      is = λ n k lists sized few room. is
+          ∙ raised-units n k us lists caps shares sized few (numbers .same) amount key room greatest;
+    }

@@ -39,7 +39,8 @@ module _ (us : List ℕ) (i : ℕ) where
     unfolding total
     total-turn g = rw (add-one i, drop-cons us i 0 h)
 
-    pub raised-turn : (caps : List ℕ) (key : ℕ) (s : List ℕ) → raised caps key (drop i us) s ≡ raised caps key (drop (i + 1) us) (raiseOne caps key s (getD us i 0))
+    pub raised-turn : (caps : List ℕ) (key : ℕ) (s : List ℕ)
+        → raised caps key (drop i us) s ≡ raised caps key (drop (i + 1) us) (raiseOne caps key s (getD us i 0))
     unfolding raised
     raised-turn caps key s = rw (add-one i, drop-cons us i 0 h)
 
@@ -50,7 +51,8 @@ module _ (caps : List ℕ) (key : ℕ) where
   raised-length (u ∷ us) s = raised-length us (raiseOne caps key s u) ∙ length-set s u (getD s u 0 + taken caps s key u)
 
   -- what j has afterwards, where the list has it once or not at all
-  pub raised-entry : (us : List ℕ) (b : Bool) (s : List ℕ) (j : ℕ) → j < length s → total (λ u. pick (eqb j u) 1) us ≡ pick b 1
+  pub raised-entry : (us : List ℕ) (b : Bool) (s : List ℕ) (j : ℕ) → j < length s
+      → total (λ u. pick (eqb j u) 1) us ≡ pick b 1
       → getD (raised caps key us s) j 0 ≡ getD s j 0 + pick b (taken caps s key j)
   unfolding raised total
   raised-entry [] true s j h e = absurd (omega arith)
@@ -64,11 +66,13 @@ module _ (caps : List ℕ) (key : ℕ) where
             omega (
               arith,
               raised-entry us false (raiseOne caps key s u) j sized rest,
-              subst (λ (v : ℕ). getD (raiseOne caps key s u) v 0 ≡ getD s v 0 + taken caps s key v) (sym d) (getD-set-same s u (getD s u 0 + taken caps s key u) 0 (omega arith)),
+              subst (λ (v : ℕ). getD (raiseOne caps key s u) v 0 ≡ getD s v 0 + taken caps s key v) (sym d)
+                  (getD-set-same s u (getD s u 0 + taken caps s key u) 0 (omega arith)),
               pick-yes (taken caps s key j) is,
             )
         | no d ↦ raised-entry us b (raiseOne caps key s u) j sized (omega (arith, pick-no 1 (ne-eqb j u d)))
-            ∙ ap (λ (a : ℕ). a + pick b (took (getD caps j 0) a (aim key j))) (getD-set-other s u j (getD s u 0 + taken caps s key u) 0 d)
+            ∙ ap (λ (a : ℕ). a + pick b (took (getD caps j 0) a (aim key j)))
+            (getD-set-other s u j (getD s u 0 + taken caps s key u) 0 d)
       ]
     where
       sized : j < length (raiseOne caps key s u)

@@ -49,5 +49,6 @@ raised caps key (u ∷ us) shares = raised caps key us (raiseOne caps key shares
 
 -- the shares after the amount is given out by the rule, on every network and arc whose users the list has
 pub record GivenOut (us caps : List ℕ) (amount : ℕ) (before after : List ℕ) : Type 0 where
-  pub is : (n : Network) (k : ℕ) → Lists n k us → length caps ≡ memberCount n → memberCount n ≤ mostArcs → amount ≤ fill n caps k before mostShare 0
+  pub is : (n : Network) (k : ℕ) → Lists n k us → length caps ≡ memberCount n → memberCount n ≤ mostArcs
+      → amount ≤ fill n caps k before mostShare 0
       → after ≡ units n caps k amount before

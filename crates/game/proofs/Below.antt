@@ -1,4 +1,11 @@
--- At or below: its laws, and the vertices at or below k as k itself and, apart, those at or below its children.
+-- At or below. Outside this file the definition stays shut; these laws serve.
+--
+--   from-source                                  induction from the source outward
+--   below-self, below-trans, below-le            order
+--   below-parent, below-cases                    one step up
+--   below-comparable                             two arcs above one vertex
+--   below-children                               v is k, or at or below one child of k, and of one only
+--   sum-below-children, sum-from-source          sums by children, and over the arcs that leave the source
 use Prim.Native.Nat.{ℕ, zero, suc, _+_, _≤_, _<_}
 use mathlib.Core.Path.{_≡_, refl, sym, ap, _∙_, subst}
 use mathlib.Core.Bool.{Bool, true, _||_}
@@ -9,7 +16,8 @@ use borrow.Author.Tests.{eqb-true, eq-eqb, ne-eqb}
 use lib.Dec.{eqb}
 use Rattle.basics.specs.Sum.{pick, sum}
 use Rattle.game.specs.Network.{Network, climb, atOrBelow, sumBelow}
-use Rattle.basics.proofs.Bools.{or-first, or-second, or-cases, eqb-comm, pick-either, pick-no, pick-zero, pick-add, pick-yes, pick-swap}
+use Rattle.basics.proofs.Bools.{or-first, or-second, or-cases, eqb-comm, pick-either, pick-no, pick-zero, pick-add}
+use Rattle.basics.proofs.Bools.{pick-yes, pick-swap}
 use Rattle.basics.proofs.Sums.{In, sum-cong, sum-add, sum-zero, sum-swap, sum-pick, sum-at}
 
 -- every parent is numbered below its arc
@@ -26,7 +34,8 @@ climb-enough p low k (suc f) zero zero hf hg = refl
 climb-enough p low k (suc f) zero (suc v) hf hg = absurd (omega arith)
 climb-enough p low k (suc f) (suc g) zero hf hg = refl
 climb-enough p low k (suc f) (suc g) (suc v) hf hg =
-    ap (λ (b : Bool). eqb k (suc v) || b) (climb-enough p low k f g (p (suc v)) (omega (arith, low v)) (omega (arith, low v)))
+    ap (λ (b : Bool). eqb k (suc v) || b)
+    (climb-enough p low k f g (p (suc v)) (omega (arith, low v)) (omega (arith, low v)))
 
 module _ (n : Network) (rooted : Rooted n) where
   -- from the source outward: what holds of the source, and of each vertex whose parent has it, holds of every vertex
@@ -52,7 +61,8 @@ module _ (n : Network) (rooted : Rooted n) where
   unfolding climb
   below-step k v =
       ap (λ (b : Bool). eqb k (suc v) || b)
-      (climb-enough (n .parent) rooted k v (n .parent (suc v)) (n .parent (suc v)) (rooted v) (le-refl (n .parent (suc v))))
+      (climb-enough (n .parent) rooted k v (n .parent (suc v)) (n .parent (suc v)) (rooted v)
+      (le-refl (n .parent (suc v))))
 
   pub below-self : (k : ℕ) → atOrBelow n k k ≡ true
   unfolding climb
@@ -74,7 +84,8 @@ module _ (n : Network) (rooted : Rooted n) where
   below-le k =
       from-source (λ v. atOrBelow n k v ≡ true → k ≤ v)
       (λ h. omega (arith, eqb-true k 0 (sym (below-source k) ∙ h)))
-      (λ v ih h. ⊎-elim (λ (e : k ≡ suc v). omega arith) (λ (b : atOrBelow n k (n .parent (suc v)) ≡ true). omega (arith, ih b, rooted v)) (below-cases k v h))
+      (λ v ih h. ⊎-elim (λ (e : k ≡ suc v). omega arith)
+      (λ (b : atOrBelow n k (n .parent (suc v)) ≡ true). omega (arith, ih b, rooted v)) (below-cases k v h))
 
   pub below-trans : (a b v : ℕ) → atOrBelow n a b ≡ true → atOrBelow n b v ≡ true → atOrBelow n a v ≡ true
   below-trans a b v ab =
@@ -88,9 +99,11 @@ module _ (n : Network) (rooted : Rooted n) where
       v
 
   -- of two arcs above one vertex, one is at or below the other
-  pub below-comparable : (a b v : ℕ) → atOrBelow n a v ≡ true → atOrBelow n b v ≡ true → (atOrBelow n a b ≡ true) ⊎ (atOrBelow n b a ≡ true)
+  pub below-comparable : (a b v : ℕ) → atOrBelow n a v ≡ true → atOrBelow n b v ≡ true
+      → (atOrBelow n a b ≡ true) ⊎ (atOrBelow n b a ≡ true)
   below-comparable a b =
-      from-source (λ v. atOrBelow n a v ≡ true → atOrBelow n b v ≡ true → (atOrBelow n a b ≡ true) ⊎ (atOrBelow n b a ≡ true))
+      from-source
+      (λ v. atOrBelow n a v ≡ true → atOrBelow n b v ≡ true → (atOrBelow n a b ≡ true) ⊎ (atOrBelow n b a ≡ true))
       (λ ha hb. inl (subst (λ (w : ℕ). atOrBelow n a w ≡ true) (sym (eqb-true b 0 (sym (below-source b) ∙ hb))) ha))
       (λ v ih ha hb.
       ⊎-elim
@@ -107,7 +120,8 @@ module _ (n : Network) (rooted : Rooted n) where
   all-below-source = from-source (λ v. atOrBelow n 0 v ≡ true) (below-self 0) (λ v ih. below-parent 0 v ih)
 
   -- v itself, or at or below its parent, and never both
-  pub below-pick : (k v x : ℕ) → pick (atOrBelow n k (suc v)) x ≡ pick (eqb k (suc v)) x + pick (atOrBelow n k (n .parent (suc v))) x
+  pub below-pick : (k v x : ℕ)
+      → pick (atOrBelow n k (suc v)) x ≡ pick (eqb k (suc v)) x + pick (atOrBelow n k (n .parent (suc v))) x
   below-pick k v x =
       ap (λ (b : Bool). pick b x) (below-step k v)
       ∙ pick-either (eqb k (suc v)) (atOrBelow n k (n .parent (suc v))) x
@@ -126,7 +140,8 @@ module _ (n : Network) (rooted : Rooted n) where
       (pick-no x (below-source u ∙ ne-eqb u 0 (λ e. omega arith)))
       ∙ pick-zero (eqb (n .parent u) k))
 
-  child-sum-step : (k x v : ℕ) → suc v ≤ n .arcs → child-sum k x (suc v) ≡ pick (eqb k (n .parent (suc v))) x + child-sum k x (n .parent (suc v))
+  child-sum-step : (k x v : ℕ) → suc v ≤ n .arcs
+      → child-sum k x (suc v) ≡ pick (eqb k (n .parent (suc v))) x + child-sum k x (n .parent (suc v))
   unfolding child-sum
   child-sum-step k x v h =
       sum-cong (n .arcs)
@@ -134,7 +149,8 @@ module _ (n : Network) (rooted : Rooted n) where
       ap (λ (y : ℕ). pick (eqb (n .parent u) k) y) (below-pick u v x)
       ∙ pick-add (eqb (n .parent u) k) (pick (eqb u (suc v)) x) (pick (atOrBelow n u (n .parent (suc v))) x)
       ∙ ap (λ (y : ℕ). y + pick (eqb (n .parent u) k) (pick (atOrBelow n u (n .parent (suc v))) x))
-      (pick-swap (eqb (n .parent u) k) (eqb u (suc v)) x ∙ ap (λ (b : Bool). pick b (pick (eqb (n .parent u) k) x)) (eqb-comm u (suc v))))
+      (pick-swap (eqb (n .parent u) k) (eqb u (suc v)) x
+      ∙ ap (λ (b : Bool). pick b (pick (eqb (n .parent u) k) x)) (eqb-comm u (suc v))))
       ∙ sum-add (n .arcs) (λ u. pick (eqb (suc v) u) (pick (eqb (n .parent u) k) x))
       (λ u. pick (eqb (n .parent u) k) (pick (atOrBelow n u (n .parent (suc v))) x))
       ∙ ap (λ (y : ℕ). y + child-sum k x (n .parent (suc v)))
@@ -149,7 +165,9 @@ module _ (n : Network) (rooted : Rooted n) where
       (λ v ih h. omega (arith, below-pick k v x, child-sum-step k x v h, ih (omega (arith, rooted v))))
 
   sum-below-split : (x : ℕ → ℕ) (k : ℕ)
-      → sumBelow n x k ≡ sum (n .arcs) (λ v. pick (eqb k v) (x v)) + sum (n .arcs) (λ u. pick (eqb (n .parent u) k) (sumBelow n x u))
+      → sumBelow n x k
+      ≡ sum (n .arcs) (λ v. pick (eqb k v) (x v))
+      + sum (n .arcs) (λ u. pick (eqb (n .parent u) k) (sumBelow n x u))
   unfolding sumBelow child-sum
   sum-below-split x k =
       sum-cong (n .arcs) (λ v i. below-children k (x v) v (i .high))

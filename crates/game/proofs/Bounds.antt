@@ -1,4 +1,5 @@
--- The source's bound of an arc: the costs of the arcs that only the arc's users use; never below the need, and when it is the need.
+-- The source's bound of an arc: the costs of the arcs that only the arc's users use; never below the need, and when
+-- it is the need.
 use Prim.Native.Nat.{ℕ, zero, suc, _≤_}
 use mathlib.Core.Path.{_≡_, sym, ap, _∙_, subst}
 use mathlib.Core.Bool.{Bool, true, false, not}
@@ -7,7 +8,8 @@ use native.Mathlib.Omega.{arith}
 use lib.IntN.{ℤ, pos}
 use lib.Signed.{_≤ℤ_}
 use Rattle.basics.specs.Sum.{pick}
-use Rattle.game.specs.Network.{Network, atOrBelow, user, used, groupCost, everyone, sumBelow, need, wholeCost, number}
+use Rattle.game.specs.Network.{Network, atOrBelow, user, used, groupCost, everyone, sumBelow, need, wholeCost}
+use Rattle.game.specs.Network.{number}
 use Rattle.game.specs.Group.{byNumber}
 use Rattle.game.specs.Core.{users, others, bound, onlyTheirs, IsArc}
 use Rattle.basics.proofs.Bools.{both, clash, not-so, and-both, and-first, and-second, same-test, pick-mono, pick-zero}
@@ -61,22 +63,26 @@ module _ (n : Network) (rooted : Rooted n) where
       none : UsedBy n (byNumber n (others n k)) e → ⊥
       none b =
           let m = and-first (n .member (b .by)) (atOrBelow n e (b .by)) (b .uses) in
-          let h′ = below-trans n rooted k e (b .by) h (and-second (n .member (b .by)) (atOrBelow n e (b .by)) (b .uses)) in
+          let h′ = below-trans n rooted k e (b .by) h
+          (and-second (n .member (b .by)) (atOrBelow n e (b .by)) (b .uses)) in
           clash (b .chosen) (ap not (users-at n k (b .by) (b .within) m ∙ h′))
 
   pub need-le-only : (k : ℕ) → need n k ≤ onlyTheirs n k
   unfolding sumBelow onlyTheirs
   need-le-only k =
       sum-mono (n .arcs)
-      (λ e i. pick-mono (atOrBelow n k e) (not (used n (byNumber n (others n k)) e)) (n .cost e) (λ h. ap not (not-others k e h)))
+      (λ e i. pick-mono (atOrBelow n k e) (not (used n (byNumber n (others n k)) e)) (n .cost e)
+      (λ h. ap not (not-others k e h)))
 
   pub need-le-bound : (k : ℕ) → pos (need n k) ≤ℤ bound n k
   need-le-bound k =
       subst (λ (z : ℤ). pos (need n k) ≤ℤ z) (sym (bound-is-only-theirs n k))
-      (less-le (pos (need n k)) (pos (onlyTheirs n k)) (less-parts (pos (need n k))) (less-parts (pos (onlyTheirs n k))) (omega (arith, need-le-only k)))
+      (less-le (pos (need n k)) (pos (onlyTheirs n k)) (less-parts (pos (need n k)))
+      (less-parts (pos (onlyTheirs n k))) (omega (arith, need-le-only k)))
 
   -- an arc above k other than k is above k's parent
-  pub above-parent : (e k : ℕ) → In (n .arcs) k → atOrBelow n e k ≡ true → atOrBelow n k e ≡ false → atOrBelow n e (n .parent k) ≡ true
+  pub above-parent : (e k : ℕ) → In (n .arcs) k → atOrBelow n e k ≡ true → atOrBelow n k e ≡ false
+      → atOrBelow n e (n .parent k) ≡ true
   above-parent e zero i h out = absurd (omega arith)
   above-parent e (suc k) i h out =
       ⊎-elim
@@ -86,7 +92,8 @@ module _ (n : Network) (rooted : Rooted n) where
 
   module _ (unused-free : UnusedFree n) (k : ℕ) (arc : IsArc n k) (free : (n .parent k ≡ 0) ⊎ OtherUser n k) where
     -- a user of an arc that does not use k
-    others-by : (e v : ℕ) → In (n .arcs) v → user n e v ≡ true → atOrBelow n k v ≡ false → used n (byNumber n (others n k)) e ≡ true
+    others-by : (e v : ℕ) → In (n .arcs) v → user n e v ≡ true → atOrBelow n k v ≡ false
+        → used n (byNumber n (others n k)) e ≡ true
     others-by e v i u out =
         used-of n
         (record {
@@ -97,19 +104,22 @@ module _ (n : Network) (rooted : Rooted n) where
         })
 
     -- an arc above k other than k is used by a member that does not use k
-    others-above : (e : ℕ) → In (n .arcs) e → atOrBelow n e (n .parent k) ≡ true → used n (byNumber n (others n k)) e ≡ true
+    others-above : (e : ℕ) → In (n .arcs) e → atOrBelow n e (n .parent k) ≡ true
+        → used n (byNumber n (others n k)) e ≡ true
     others-above e i h =
         ⊎-elim
         (λ (d : n .parent k ≡ 0). absurd (omega (arith, below-le n rooted e (n .parent k) h)))
         (λ (o : OtherUser n k).
         others-by e (o .who) (o .within)
         (and-both (and-first (n .member (o .who)) (atOrBelow n (n .parent k) (o .who)) (o .uses-parent))
-        (below-trans n rooted e (n .parent k) (o .who) h (and-second (n .member (o .who)) (atOrBelow n (n .parent k) (o .who)) (o .uses-parent))))
+        (below-trans n rooted e (n .parent k) (o .who) h
+        (and-second (n .member (o .who)) (atOrBelow n (n .parent k) (o .who)) (o .uses-parent))))
         (o .not-below))
         free
 
     -- and so is every used arc that is not at or below k
-    others-use : (e : ℕ) → In (n .arcs) e → used n everyone e ≡ true → atOrBelow n k e ≡ false → used n (byNumber n (others n k)) e ≡ true
+    others-use : (e : ℕ) → In (n .arcs) e → used n everyone e ≡ true → atOrBelow n k e ≡ false
+        → used n (byNumber n (others n k)) e ≡ true
     others-use e i by out =
         let b = used-by n everyone e by in
         let below = and-second (n .member (b .by)) (atOrBelow n e (b .by)) (b .uses) in
@@ -122,7 +132,8 @@ module _ (n : Network) (rooted : Rooted n) where
         (λ (h : atOrBelow n k (b .by) ≡ false). others-by e (b .by) (b .within) (b .uses) h)
         (both (atOrBelow n k (b .by)))
 
-    only-at : (e : ℕ) → In (n .arcs) e → used n everyone e ≡ true → atOrBelow n k e ≡ not (used n (byNumber n (others n k)) e)
+    only-at : (e : ℕ) → In (n .arcs) e → used n everyone e ≡ true
+        → atOrBelow n k e ≡ not (used n (byNumber n (others n k)) e)
     only-at e i by =
         same-test (atOrBelow n k e) (not (used n (byNumber n (others n k)) e))
         (λ h. ap not (not-others k e h))

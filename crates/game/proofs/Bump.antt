@@ -22,13 +22,16 @@ squares m x = sum m (λ v. x v * x v)
 sum-here : (m i : ℕ) (f : ℕ → ℕ) → In m i → sum m (λ v. pick (eqb v i) (f v)) ≡ f i
 sum-here m i f k = sum-cong m (λ v j. ap (λ (b : Bool). pick b (f v)) (eqb-comm v i)) ∙ sum-at m i f k
 
-pub below-bump : (n : Network) (x : ℕ → ℕ) (i f : ℕ) → In (n .arcs) i → sumBelow n (bump x i) f ≡ sumBelow n x f + pick (atOrBelow n f i) 1
+pub below-bump : (n : Network) (x : ℕ → ℕ) (i f : ℕ) → In (n .arcs) i
+    → sumBelow n (bump x i) f ≡ sumBelow n x f + pick (atOrBelow n f i) 1
 unfolding sumBelow
 below-bump n x i f k =
     sum-cong (n .arcs)
-    (λ v j. pick-add (atOrBelow n f v) (x v) (pick (eqb v i) 1) ∙ ap (λ (y : ℕ). pick (atOrBelow n f v) (x v) + y) (pick-swap (atOrBelow n f v) (eqb v i) 1))
+    (λ v j. pick-add (atOrBelow n f v) (x v) (pick (eqb v i) 1)
+    ∙ ap (λ (y : ℕ). pick (atOrBelow n f v) (x v) + y) (pick-swap (atOrBelow n f v) (eqb v i) 1))
     ∙ sum-add (n .arcs) (λ v. pick (atOrBelow n f v) (x v)) (λ v. pick (eqb v i) (pick (atOrBelow n f v) 1))
-    ∙ ap (λ (y : ℕ). sum (n .arcs) (λ v. pick (atOrBelow n f v) (x v)) + y) (sum-here (n .arcs) i (λ v. pick (atOrBelow n f v) 1) k)
+    ∙ ap (λ (y : ℕ). sum (n .arcs) (λ v. pick (atOrBelow n f v) (x v)) + y)
+    (sum-here (n .arcs) i (λ v. pick (atOrBelow n f v) 1) k)
 
 square-bump : (b : Bool) (x : ℕ) → (x + pick b 1) * (x + pick b 1) ≡ x * x + pick b (2 * x + 1)
 square-bump true x = omega arith
@@ -54,7 +57,8 @@ bump-less y j h v =
 pub less-at : (y : ℕ → ℕ) (j : ℕ) → less-one y j j ≡ y j - 1
 less-at y j = ap (λ (b : Bool). y j - pick b 1) (eq-eqb j j refl)
 
-pub below-cong : (n : Network) (x y : ℕ → ℕ) (f : ℕ) → ((v : ℕ) → In (n .arcs) v → x v ≡ y v) → sumBelow n x f ≡ sumBelow n y f
+pub below-cong : (n : Network) (x y : ℕ → ℕ) (f : ℕ) → ((v : ℕ) → In (n .arcs) v → x v ≡ y v)
+    → sumBelow n x f ≡ sumBelow n y f
 unfolding sumBelow
 below-cong n x y f e = sum-cong (n .arcs) (λ v i. ap (pick (atOrBelow n f v)) (e v i))
 

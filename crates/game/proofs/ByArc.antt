@@ -34,7 +34,8 @@ module _ (n : Network) where
   down-length zero l e = e
   down-length (suc k) l e = down-length k (giveArc n (suc k) l) (give-length (suc k) l)
 
-  down-at : (k : ℕ) (l : List ℕ) (j : ℕ) → j < memberCount n → getD (byArcDown n k l) j 0 ≡ getD l j 0 + sum k (λ e. gift n e j)
+  down-at : (k : ℕ) (l : List ℕ) (j : ℕ) → j < memberCount n
+      → getD (byArcDown n k l) j 0 ≡ getD l j 0 + sum k (λ e. gift n e j)
   unfolding byArcDown
   down-at zero l j h = omega arith
   down-at (suc k) l j h = omega (arith, down-at k (giveArc n (suc k) l) j h, give-at (suc k) l j h)

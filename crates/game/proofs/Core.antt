@@ -1,4 +1,5 @@
--- The core theorem: the lists of the core are those that add up and give every arc's users the source's bound, or the need.
+-- The core theorem: the lists of the core are those that add up and give every arc's users the source's bound, or the
+-- need.
 use Prim.Native.Nat.{ℕ, _+_, _-_, _≤_, _<_}
 use mathlib.Core.Path.{_≡_, sym, ap, _∙_}
 use mathlib.Core.Bool.{Bool, true, false}
@@ -35,13 +36,16 @@ module _ (n : Network) where
       (λ (m : n .member v ≡ true). ap (λ (b : Bool). pick b (x v)) (users-at n k v i m))
       (λ (m : n .member v ≡ false).
       let e = of-members v i m in
-      ap (pick (users n k (number n v))) e ∙ pick-zero (users n k (number n v)) ∙ sym (ap (pick (atOrBelow n k v)) e ∙ pick-zero (atOrBelow n k v)))
+      ap (pick (users n k (number n v))) e ∙ pick-zero (users n k (number n v))
+      ∙ sym (ap (pick (atOrBelow n k v)) e ∙ pick-zero (atOrBelow n k v)))
       (both (n .member v)))
 
   -- a sum over an arc's users, by member number and by vertex
   pub users-by-vertex : (x : ℕ → ℕ) (k : ℕ)
       → sum₀ (memberCount n) (λ j. pick (users n k j) (x j)) ≡ sumBelow n (λ v. pick (n .member v) (x (number n v))) k
-  users-by-vertex x k = by-vertex n (users n k) x ∙ users-sum (λ v. pick (n .member v) (x (number n v))) (λ v i m. pick-no (x (number n v)) m) k
+  users-by-vertex x k =
+      by-vertex n (users n k) x
+      ∙ users-sum (λ v. pick (n .member v) (x (number n v))) (λ v i m. pick-no (x (number n v)) m) k
 
 module _ (n : Network) (shares : List ℤ) where
   pays-whole : AddsUp n shares
@@ -59,17 +63,20 @@ module _ (n : Network) (shares : List ℤ) where
           (omega (
             arith,
             pays-whole (core .adds-up),
-            le-less (pays n shares (others n k)) c (less-pays n shares (others n k)) (less-parts c) (core .no-group-more (others n k)),
+            le-less (pays n shares (others n k)) c (less-pays n shares (others n k)) (less-parts c)
+                (core .no-group-more (others n k)),
             sum-parts (n .arcs) (byNumber n (users n k)) (over-at n shares),
             sum-parts (n .arcs) (byNumber n (users n k)) (under-at n shares),
           ))
 
   -- the sums at or below an arc are the need and more, by the parts of the shares
-  need-parts : CoreByNeed n shares → (k : ℕ) → In (n .arcs) k → need n k + sumBelow n (under-at n shares) k ≤ sumBelow n (over-at n shares) k
+  need-parts : CoreByNeed n shares → (k : ℕ) → In (n .arcs) k
+      → need n k + sumBelow n (under-at n shares) k ≤ sumBelow n (over-at n shares) k
   need-parts core k i =
       omega (
         arith,
-        le-less (pos (need n k)) (pays n shares (users n k)) (less-parts (pos (need n k))) (less-pays n shares (users n k)) (core .users-enough k (omega arith)),
+        le-less (pos (need n k)) (pays n shares (users n k)) (less-parts (pos (need n k)))
+            (less-pays n shares (users n k)) (core .users-enough k (omega arith)),
         users-sum n (over-at n shares) (λ v j m. pick-no (plus (share shares (number n v))) m) k,
         users-sum n (under-at n shares) (λ v j m. pick-no (minus (share shares (number n v))) m) k,
       )
@@ -77,10 +84,14 @@ module _ (n : Network) (shares : List ℤ) where
 module _ (n : Network) (rooted : Rooted n) (shares : List ℤ) where
   pub bound-to-need : CoreByBound n shares → CoreByNeed n shares
   bound-to-need core =
-      record { adds-up = core .adds-up; users-enough = λ k i. le-trans-ℤ (need-le-bound n rooted k) (core .users-enough k i) }
+      record {
+        adds-up = core .adds-up;
+        users-enough = λ k i. le-trans-ℤ (need-le-bound n rooted k) (core .users-enough k i);
+      }
 
 -- at a member's own arc the sum is the member's alone
-pub own-sum : (n : Network) → Rooted n → MembersEnd n → (x : ℕ → ℕ) (v : ℕ) → In (n .arcs) v → n .member v ≡ true → sumBelow n x v ≡ x v
+pub own-sum : (n : Network) → Rooted n → MembersEnd n → (x : ℕ → ℕ) (v : ℕ) → In (n .arcs) v → n .member v ≡ true
+    → sumBelow n x v ≡ x v
 own-sum n rooted end x v i m = omega (arith, sum-below-children n rooted x v i, no-children n end (sumBelow n x) v m)
 
 module _ (n : Network) (rooted : Rooted n) (end : MembersEnd n) (shares : List ℤ) where
@@ -164,6 +175,7 @@ module _ (n : Network) (rooted : Rooted n) (end : MembersEnd n) (shares : List �
             less-le (pays n shares g) c (less-pays n shares g) (less-parts c)
             (omega (
               arith,
-              certificate n rooted (over-at n shares) spare (λ v i m. pick-no (plus (share shares (number n v))) m) bounded (byNumber n g),
+              certificate n rooted (over-at n shares) spare
+                  (λ v i m. pick-no (plus (share shares (number n v))) m) bounded (byNumber n g),
               spare-none,
             ))

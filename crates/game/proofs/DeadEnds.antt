@@ -37,7 +37,12 @@ module _ (n : Network) (rooted : Rooted n) (ends : Ends n) where
       ⊎-elim
       (λ (m : n .member k ≡ true). own k i m)
       (λ (s : Some (n .arcs) (λ u. eqb (n .parent u) k)).
-      absurd (omega (arith, child-after n rooted k (s .which) (s .within) (eqb-true (n .parent (s .which)) k (s .passes)), s .within .high)))
+      absurd
+      (omega (
+        arith,
+        child-after n rooted k (s .which) (s .within) (eqb-true (n .parent (s .which)) k (s .passes)),
+        s .within .high,
+      )))
       (ends k i)
   used-within (suc d) k i h =
       ⊎-elim

@@ -115,7 +115,8 @@ module _ (g : ℕ → Bool) where
   unfolding bit part
   bit-of-words j h =
       let whole : 64 * (j / 64) + j % 64 ≡ j = omega arith in
-      rw (words-at (j / 64) (omega arith)) (word-digit 64 (j % 64) (λ b. g (64 * (j / 64) + b)) (omega arith) ∙ ap g whole)
+      rw (words-at (j / 64) (omega arith))
+      (word-digit 64 (j % 64) (λ b. g (64 * (j / 64) + b)) (omega arith) ∙ ap g whole)
 
   pub bit-beyond : (j : ℕ) → 1024 ≤ j → bit (wordsOf g) j ≡ false
   bit-beyond j h = bit-past (wordsOf g) j (omega (arith, words-length))
@@ -128,10 +129,12 @@ words-of-bits words l small =
 pub words-same : (g h : ℕ → Bool) → ((j : ℕ) → j < 1024 → g j ≡ h j) → wordsOf g ≡ wordsOf h
 unfolding part
 words-same g h e =
-    words-are h (wordsOf g) (words-length g) (λ i l. words-at g i l ∙ word-same 64 _ _ (λ b k. e (64 * i + b) (omega arith)))
+    words-are h (wordsOf g) (words-length g)
+    (λ i l. words-at g i l ∙ word-same 64 _ _ (λ b k. e (64 * i + b) (omega arith)))
 
 -- the words of a group with one of them replaced are the words of a group
-pub encoded-set : (words : List ℕ) (q w : ℕ) → words ≡ wordsOf (bit words) → w < 2 ^ 64 → set words q w ≡ wordsOf (bit (set words q w))
+pub encoded-set : (words : List ℕ) (q w : ℕ) → words ≡ wordsOf (bit words) → w < 2 ^ 64
+    → set words q w ≡ wordsOf (bit (set words q w))
 encoded-set words q w e h =
     words-of-bits (set words q w) (length-set words q w ∙ ap length e ∙ words-length (bit words))
     (λ i. elim (ℕ-discrete i q) [ yes d ↦ here i d | no d ↦ rw (getD-set-other words q i w 0 d) (old i) ])

@@ -35,11 +35,16 @@ gift-near-times : (k w f c x : ℕ) → k * w ≡ f → 0 < f → Within k (k * 
 gift-near-times k w f c x e pos near =
     elim (ℕ-discrete w 0) [
       | yes z ↦ absurd (omega (arith, rw (z, mul-zero) at e))
-      | no z ↦ rw (← e) (record { above = omega (arith, mul-le-mul-left w (near .above)); below = omega (arith, mul-le-mul-left w (near .below)) })
+      | no z ↦ rw (← e)
+          (record {
+            above = omega (arith, mul-le-mul-left w (near .above));
+            below = omega (arith, mul-le-mul-left w (near .below));
+          })
     ]
 
 -- terms that are less than d above others where the test holds, and equal elsewhere
-sum-above : (m d : ℕ) (u : ℕ → Bool) (f h : ℕ → ℕ) → ((k : ℕ) → In m k → u k ≡ true → f k < h k + d) → ((k : ℕ) → In m k → u k ≡ false → f k ≡ h k)
+sum-above : (m d : ℕ) (u : ℕ → Bool) (f h : ℕ → ℕ) → ((k : ℕ) → In m k → u k ≡ true → f k < h k + d)
+    → ((k : ℕ) → In m k → u k ≡ false → f k ≡ h k)
     → 0 < count m u → sum m f < sum m h + d * count m u
 sum-above m d u f h picked rest some =
     omega (
@@ -59,7 +64,8 @@ sum-above m d u f h picked rest some =
 
 module _ (n : Network) (i : ℕ) (h : i < memberCount n) where
   -- after the least for every user, what i gets above it is left of the cost
-  left-over : (k : ℕ) (g : ℕ → ℕ) → Even n k g → users n k i ≡ true → n .cost k / userCount n k * userCount n k + (g i - n .cost k / userCount n k) ≤ n .cost k
+  left-over : (k : ℕ) (g : ℕ → ℕ) → Even n k g → users n k i ≡ true
+      → n .cost k / userCount n k * userCount n k + (g i - n .cost k / userCount n k) ≤ n .cost k
   left-over k g even u =
       let q = n .cost k / userCount n k in
       omega (
@@ -95,28 +101,37 @@ module _ (n : Network) (i : ℕ) (h : i < memberCount n) where
 
   -- at an arc of the member's path
   arc-near : (k : ℕ) (g : ℕ → ℕ) → Even n k g → users n k i ≡ true
-      → Within (factorial (memberCount n)) (factorial (memberCount n) * g i) (n .cost k * (factorial (memberCount n) / userCount n k))
+      → Within (factorial (memberCount n)) (factorial (memberCount n) * g i)
+      (n .cost k * (factorial (memberCount n) / userCount n k))
   arc-near k g even u =
       let pos = user-count-pos n k i h u in
       let w = factorial (memberCount n) / userCount n k in
-      gift-near-times (userCount n k) w (factorial (memberCount n)) (n .cost k) (g i) (whole-part n k pos) (factorial-pos (memberCount n))
-      (gift-near (userCount n k) (n .cost k / userCount n k) (n .cost k % userCount n k) (n .cost k) (g i) (div-add-mod (n .cost k) (userCount n k))
+      gift-near-times (userCount n k) w (factorial (memberCount n)) (n .cost k) (g i) (whole-part n k pos)
+      (factorial-pos (memberCount n))
+      (gift-near (userCount n k) (n .cost k / userCount n k) (n .cost k % userCount n k) (n .cost k) (g i)
+      (div-add-mod (n .cost k) (userCount n k))
       (mod-lt (n .cost k) pos) (even .least i u) (even .most i u) (left-over k g even u))
 
   -- the path has the member's own arc
   path-pos : Rooted n → 0 < pathLength n i
   path-pos rooted =
       let v = vertex-of (n .member) (n .arcs) i h in
-      let own = sym (ap (users n (v .vertex)) (v .numbered)) ∙ users-at n (v .vertex) (v .vertex) (v .within) (v .is-member) ∙ below-self n rooted (v .vertex) in
+      let own = sym (ap (users n (v .vertex)) (v .numbered))
+      ∙ users-at n (v .vertex) (v .vertex) (v .within) (v .is-member) ∙ below-self n rooted (v .vertex) in
       omega (arith, term-le (n .arcs) (v .vertex) (λ k. pick (users n k i) 1) (v .within), pick-yes 1 own)
 
   pub even-near : Rooted n → (g : ℕ → ℕ → ℕ) → ((k : ℕ) → In (n .arcs) k → Even n k (g k))
-      → Within (factorial (memberCount n) * pathLength n i) (factorial (memberCount n) * sum (n .arcs) (λ k. g k i)) (shapley n i)
+      → Within (factorial (memberCount n) * pathLength n i) (factorial (memberCount n) * sum (n .arcs) (λ k. g k i))
+      (shapley n i)
   even-near rooted g even =
       rw (shapley-by-arcs n i h, sum-times (n .arcs) (factorial (memberCount n)) (λ k. g k i))
       (record {
-        above = sum-above (n .arcs) (factorial (memberCount n)) (λ k. users n k i) given exact (λ k j u. on k j u .above) off (path-pos rooted);
-        below = sum-above (n .arcs) (factorial (memberCount n)) (λ k. users n k i) exact given (λ k j u. on k j u .below) (λ k j u. sym (off k j u)) (path-pos rooted);
+        above =
+            sum-above (n .arcs) (factorial (memberCount n)) (λ k. users n k i) given exact
+            (λ k j u. on k j u .above) off (path-pos rooted);
+        below =
+            sum-above (n .arcs) (factorial (memberCount n)) (λ k. users n k i) exact given (λ k j u. on k j u .below)
+            (λ k j u. sym (off k j u)) (path-pos rooted);
       })
     where
       given : ℕ → ℕ

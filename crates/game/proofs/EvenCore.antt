@@ -45,7 +45,8 @@ module _ (n : Network) (l : List ℕ) where
         whole b j =
             ⊎-elim
             (λ (u : users n k j ≡ true). pick-yes (gift k j) (below-trans n rooted f k (getD (members n) j 0) b u))
-            (λ (u : users n k j ≡ false). ap (pick (users n f j)) (even k i .others j u) ∙ pick-zero (users n f j) ∙ sym (even k i .others j u))
+            (λ (u : users n k j ≡ false). ap (pick (users n f j)) (even k i .others j u) ∙ pick-zero (users n f j)
+            ∙ sym (even k i .others j u))
             (both (users n k j))
 
     pub even-core : Rooted n → CoreByNeed n (map pos l)

@@ -1,5 +1,5 @@
--- The excess of each arc, what its users' weights exceed its cost by, and the group of the active members: it has exactly the
--- greatest excess over its own cost, and it is part of every group that has as much.
+-- The excess of each arc, what its users' weights exceed its cost by, and the group of the active members: it has
+-- exactly the greatest excess over its own cost, and it is part of every group that has as much.
 use Prim.Native.Nat.{ℕ, zero, suc, _+_, _-_, _≤_, _<_}
 use mathlib.Core.Path.{_≡_, sym, ap, _∙_}
 use mathlib.Core.Bool.{Bool, true, false, not, _&&_}
@@ -10,7 +10,8 @@ use borrow.Author.Tests.{eqb-true, eqb-false, ltb-true, lt-ltb}
 use lib.Dec.{eqb, ltb}
 use Rattle.basics.specs.Sum.{pick, sum, some}
 use Rattle.game.specs.Network.{Network, atOrBelow, used, groupCost}
-use Rattle.basics.proofs.Bools.{both, clash, not-so, same-test, and-both, and-first, and-second, or-first, or-second, or-cases, pick-yes, pick-no, pick-add, pick-zero, pick-pos}
+use Rattle.basics.proofs.Bools.{both, clash, not-so, same-test, and-both, and-first, and-second, or-first, or-second}
+use Rattle.basics.proofs.Bools.{or-cases, pick-yes, pick-no, pick-add, pick-zero, pick-pos}
 use Rattle.basics.proofs.Sums.{In, sum-cong, sum-add, sum-zero, term-le, sum-pos, some-of}
 use Rattle.game.proofs.Below.{Rooted, from-source, below-self, below-cases, below-source, below-le, child-after}
 use Rattle.game.proofs.Groups.{used-of, used-by, used-child}
@@ -33,9 +34,11 @@ MembersEnd n = (v : ℕ) → n .member v ≡ true → some (n .arcs) (λ u. eqb 
 pub no-children : (n : Network) → MembersEnd n → (g : ℕ → ℕ) (v : ℕ) → n .member v ≡ true → children n g v ≡ 0
 no-children n end g v m =
     sum-zero (n .arcs)
-    (λ u i. pick-no (g u) (not-so (eqb (n .parent u) v) (λ e. clash (some-of (n .arcs) u (λ w. eqb (n .parent w) v) i e) (end v m))))
+    (λ u i. pick-no (g u)
+    (not-so (eqb (n .parent u) v) (λ e. clash (some-of (n .arcs) u (λ w. eqb (n .parent w) v) i e) (end v m))))
 
-module _ (n : Network) (rooted : Rooted n) (w f : ℕ → ℕ) (act : ℕ → Bool) (of-members : OfMembers n w) (excess : Excess n w f) (active : Active n f act) where
+module _ (n : Network) (rooted : Rooted n) (w f : ℕ → ℕ) (act : ℕ → Bool) (of-members : OfMembers n w)
+    (excess : Excess n w f) (active : Active n f act) where
   bounded : (v : ℕ) → In (n .arcs) v → w v + children n f v ≤ n .cost v + f v
   bounded v i = omega (arith, excess v i)
 
@@ -73,7 +76,8 @@ module _ (n : Network) (rooted : Rooted n) (w f : ℕ → ℕ) (act : ℕ → Bo
   act-own : (v : ℕ) → In (n .arcs) v → 0 < w v → act v ≡ true → used n act v ≡ true
   act-own v i h a =
       ⊎-elim
-      (λ (m : n .member v ≡ true). used-of n (record { by = v; within = i; chosen = a; uses = and-both m (below-self n rooted v) }))
+      (λ (m : n .member v ≡ true). used-of n
+      (record { by = v; within = i; chosen = a; uses = and-both m (below-self n rooted v) }))
       (λ (m : n .member v ≡ false). absurd (omega (arith, of-members v i m)))
       (both (n .member v))
 
@@ -84,7 +88,8 @@ module _ (n : Network) (rooted : Rooted n) (w f : ℕ → ℕ) (act : ℕ → Bo
       elim (decLt 0 (w v)) [
         | yes l ↦ act-own v i l a
         | no l ↦
-            let s = sum-pos (n .arcs) (λ u. pick (eqb (n .parent u) v) (f u)) (omega (arith, some-excess v i a, excess v i)) in
+            let s = sum-pos (n .arcs) (λ u. pick (eqb (n .parent u) v) (f u))
+            (omega (arith, some-excess v i a, excess v i)) in
             let u = s .which in
             let p = pick-pos (eqb (n .parent u) v) (f u) (ltb-true 0 (pick (eqb (n .parent u) v) (f u)) (s .passes)) in
             let e = eqb-true (n .parent u) v (p .0) in
@@ -99,7 +104,8 @@ module _ (n : Network) (rooted : Rooted n) (w f : ℕ → ℕ) (act : ℕ → Bo
       same-test (used n act v) (act v)
       (λ h.
       let b = used-by n act v h in
-      act-above v (b .by) (i .low) (b .within .high) (b .chosen) (and-second (n .member (b .by)) (atOrBelow n v (b .by)) (b .uses)))
+      act-above v (b .by) (i .low) (b .within .high) (b .chosen)
+      (and-second (n .member (b .by)) (atOrBelow n v (b .by)) (b .uses)))
       (λ a. act-used (n .arcs + 1) v i (omega arith) a)
 
   -- the active members have their cost and all the excess of the arcs that leave the source
@@ -108,16 +114,22 @@ module _ (n : Network) (rooted : Rooted n) (w f : ℕ → ℕ) (act : ℕ → Bo
   active-exact =
       omega (
         arith,
-        sum-cong (n .arcs) {f = λ v. pick (act v) (w v + children n f v)} {g = λ v. pick (act v) (n .cost v + f v)} (λ v i. exact v i),
+        sum-cong (n .arcs) {f = λ v. pick (act v) (w v + children n f v)} {g = λ v. pick (act v) (n .cost v + f v)}
+            (λ v i. exact v i),
         split w (children n f),
         split (n .cost) f,
-        sum-cong (n .arcs) {f = λ v. pick (act v) (n .cost v)} {g = λ v. pick (used n act v) (n .cost v)} (λ v i. ap (λ (b : Bool). pick b (n .cost v)) (sym (used-act v i))),
+        sum-cong (n .arcs) {f = λ v. pick (act v) (n .cost v)} {g = λ v. pick (used n act v) (n .cost v)}
+            (λ v i. ap (λ (b : Bool). pick b (n .cost v)) (sym (used-act v i))),
         sum-cong (n .arcs) {f = λ u. pick (top n act u) (f u)} {g = λ u. pick (act u) (f u)} (λ u i. gone u i),
         children-over n rooted act f,
       )
     where
-      split : (x y : ℕ → ℕ) → sum (n .arcs) (λ v. pick (act v) (x v + y v)) ≡ sum (n .arcs) (λ v. pick (act v) (x v)) + sum (n .arcs) (λ v. pick (act v) (y v))
-      split x y = sum-cong (n .arcs) (λ v i. pick-add (act v) (x v) (y v)) ∙ sum-add (n .arcs) (λ v. pick (act v) (x v)) (λ v. pick (act v) (y v))
+      split : (x y : ℕ → ℕ)
+          → sum (n .arcs) (λ v. pick (act v) (x v + y v))
+          ≡ sum (n .arcs) (λ v. pick (act v) (x v)) + sum (n .arcs) (λ v. pick (act v) (y v))
+      split x y =
+          sum-cong (n .arcs) (λ v i. pick-add (act v) (x v) (y v))
+          ∙ sum-add (n .arcs) (λ v. pick (act v) (x v)) (λ v. pick (act v) (y v))
 
       exact : (v : ℕ) → In (n .arcs) v → pick (act v) (w v + children n f v) ≡ pick (act v) (n .cost v + f v)
       exact v i =
@@ -134,7 +146,8 @@ module _ (n : Network) (rooted : Rooted n) (w f : ℕ → ℕ) (act : ℕ → Bo
           ]
 
   -- a group that has as much uses every active vertex's arc
-  uses-active : (s : ℕ → Bool) → groupCost n s + children n f 0 ≤ sum (n .arcs) (λ v. pick (s v) (w v)) → (v : ℕ) → In (n .arcs) v → act v ≡ true → used n s v ≡ true
+  uses-active : (s : ℕ → Bool) → groupCost n s + children n f 0 ≤ sum (n .arcs) (λ v. pick (s v) (w v)) → (v : ℕ)
+      → In (n .arcs) v → act v ≡ true → used n s v ≡ true
   uses-active s much =
       from-source n rooted (λ v. In (n .arcs) v → act v ≡ true → used n s v ≡ true)
       (λ i a. absurd (omega arith))
@@ -144,7 +157,8 @@ module _ (n : Network) (rooted : Rooted n) (w f : ℕ → ℕ) (act : ℕ → Bo
       (λ (u : used n s (suc v) ≡ false). absurd (none-lacking v i a u (reached v i a ih)))
       (both (used n s (suc v))))
     where
-      reached : (v : ℕ) → In (n .arcs) (suc v) → act (suc v) ≡ true → (In (n .arcs) (n .parent (suc v)) → act (n .parent (suc v)) ≡ true → used n s (n .parent (suc v)) ≡ true)
+      reached : (v : ℕ) → In (n .arcs) (suc v) → act (suc v) ≡ true
+          → (In (n .arcs) (n .parent (suc v)) → act (n .parent (suc v)) ≡ true → used n s (n .parent (suc v)) ≡ true)
           → top n (used n s) (suc v) ≡ true
       reached v i a ih =
           ⊎-elim
@@ -153,11 +167,13 @@ module _ (n : Network) (rooted : Rooted n) (w f : ℕ → ℕ) (act : ℕ → Bo
           ⊎-elim
           (λ (e′ : eqb (n .parent (suc v)) 0 ≡ true). absurd (clash e′ e))
           (λ (t : act (n .parent (suc v)) ≡ true).
-          or-second (eqb (n .parent (suc v)) 0) (ih (parent-in n rooted (suc v) i (eqb-false (n .parent (suc v)) 0 e)) t))
+          or-second (eqb (n .parent (suc v)) 0)
+          (ih (parent-in n rooted (suc v) i (eqb-false (n .parent (suc v)) 0 e)) t))
           (or-cases (eqb (n .parent (suc v)) 0) (act (n .parent (suc v))) (act-top (suc v) i a)))
           (both (eqb (n .parent (suc v)) 0))
 
-      none-lacking : (v : ℕ) → In (n .arcs) (suc v) → act (suc v) ≡ true → used n s (suc v) ≡ false → top n (used n s) (suc v) ≡ true → ⊥
+      none-lacking : (v : ℕ) → In (n .arcs) (suc v) → act (suc v) ≡ true → used n s (suc v) ≡ false
+          → top n (used n s) (suc v) ≡ true → ⊥
       none-lacking v i a u t =
           omega (
             arith,
@@ -169,7 +185,8 @@ module _ (n : Network) (rooted : Rooted n) (w f : ℕ → ℕ) (act : ℕ → Bo
           )
 
   -- and so it has every active member
-  pub active-part : MembersEnd n → (s : ℕ → Bool) → groupCost n s + children n f 0 ≤ sum (n .arcs) (λ v. pick (s v) (w v))
+  pub active-part : MembersEnd n → (s : ℕ → Bool)
+      → groupCost n s + children n f 0 ≤ sum (n .arcs) (λ v. pick (s v) (w v))
       → (v : ℕ) → In (n .arcs) v → n .member v ≡ true → act v ≡ true → s v ≡ true
   active-part end s much v i m a =
       let b = used-by n s v (uses-active s much v i a) in

@@ -25,18 +25,21 @@ excessOf n w v = climb-down n w (suc (n .arcs)) v
 
 module _ (n : Network) (rooted : Rooted n) (w : ℕ → ℕ) where
   -- bounds that reach far enough are as good as any
-  far-enough : (d e v : ℕ) → In (n .arcs) v → n .arcs < v + d → n .arcs < v + e → climb-down n w d v ≡ climb-down n w e v
+  far-enough : (d e v : ℕ) → In (n .arcs) v → n .arcs < v + d → n .arcs < v + e
+      → climb-down n w d v ≡ climb-down n w e v
   unfolding climb-down
   far-enough zero e v i hd he = absurd (omega arith)
   far-enough (suc d) zero v i hd he = absurd (omega arith)
   far-enough (suc d) (suc e) v i hd he =
-      ap (λ (s : ℕ). (w v + s) - n .cost v) (sum-cong (n .arcs) (λ u j. at-child u j (λ c. far-enough d e u j (omega (arith, c)) (omega (arith, c)))))
+      ap (λ (s : ℕ). (w v + s) - n .cost v)
+      (sum-cong (n .arcs) (λ u j. at-child u j (λ c. far-enough d e u j (omega (arith, c)) (omega (arith, c)))))
     where
       at-child : (u : ℕ) → In (n .arcs) u → (v < u → climb-down n w d u ≡ climb-down n w e u)
           → pick (eqb (n .parent u) v) (climb-down n w d u) ≡ pick (eqb (n .parent u) v) (climb-down n w e u)
       at-child u j h =
           ⊎-elim
-          (λ (p : eqb (n .parent u) v ≡ true). ap (pick (eqb (n .parent u) v)) (h (child-after n rooted v u j (eqb-true (n .parent u) v p))))
+          (λ (p : eqb (n .parent u) v ≡ true). ap (pick (eqb (n .parent u) v))
+          (h (child-after n rooted v u j (eqb-true (n .parent u) v p))))
           (λ (p : eqb (n .parent u) v ≡ false). pick-no (climb-down n w d u) p ∙ sym (pick-no (climb-down n w e u) p))
           (both (eqb (n .parent u) v))
 
@@ -44,7 +47,9 @@ module _ (n : Network) (rooted : Rooted n) (w : ℕ → ℕ) where
   unfolding excessOf climb-down
   excess-of v i =
       ap (λ (s : ℕ). (w v + s) - n .cost v)
-      (sum-cong (n .arcs) (λ u j. ap (pick (eqb (n .parent u) v)) (far-enough (n .arcs) (suc (n .arcs)) u j (omega arith) (omega arith))))
+      (sum-cong (n .arcs)
+      (λ u j. ap (pick (eqb (n .parent u) v))
+      (far-enough (n .arcs) (suc (n .arcs)) u j (omega arith) (omega arith))))
 
   module _ (f : ℕ → ℕ) (excess : Excess n w f) where
     below-weights : (d v : ℕ) → In (n .arcs) v → n .arcs < v + d → f v ≤ sumBelow n w v
@@ -54,14 +59,18 @@ module _ (n : Network) (rooted : Rooted n) (w : ℕ → ℕ) where
           arith,
           excess v i,
           sum-below-children n rooted w v i,
-          sum-mono (n .arcs) {f = λ u. pick (eqb (n .parent u) v) (f u)} {g = λ u. pick (eqb (n .parent u) v) (sumBelow n w u)}
+          sum-mono
+              (n .arcs) {f = λ u. pick (eqb (n .parent u) v) (f u)}
+              {g = λ u. pick (eqb (n .parent u) v) (sumBelow n w u)}
               (λ u j. at-child u j (λ c. below-weights d u j (omega (arith, c)))),
         )
       where
-        at-child : (u : ℕ) → In (n .arcs) u → (v < u → f u ≤ sumBelow n w u) → pick (eqb (n .parent u) v) (f u) ≤ pick (eqb (n .parent u) v) (sumBelow n w u)
+        at-child : (u : ℕ) → In (n .arcs) u → (v < u → f u ≤ sumBelow n w u)
+            → pick (eqb (n .parent u) v) (f u) ≤ pick (eqb (n .parent u) v) (sumBelow n w u)
         at-child u j k =
             ⊎-elim
-            (λ (p : eqb (n .parent u) v ≡ true). pick-both-le (eqb (n .parent u) v) (k (child-after n rooted v u j (eqb-true (n .parent u) v p))))
+            (λ (p : eqb (n .parent u) v ≡ true). pick-both-le (eqb (n .parent u) v)
+            (k (child-after n rooted v u j (eqb-true (n .parent u) v p))))
             (λ (p : eqb (n .parent u) v ≡ false). omega (arith, pick-no (f u) p))
             (both (eqb (n .parent u) v))
 
@@ -70,4 +79,6 @@ module _ (n : Network) (rooted : Rooted n) (w : ℕ → ℕ) where
     excess-le v h = omega (arith, at-most v, children-le n rooted w v h)
       where
         at-most : (v : ℕ) → children n f v ≤ children n (sumBelow n w) v
-        at-most v = sum-mono (n .arcs) (λ u j. pick-both-le (eqb (n .parent u) v) (below-weights (suc (n .arcs)) u j (omega arith)))
+        at-most v =
+            sum-mono (n .arcs)
+            (λ u j. pick-both-le (eqb (n .parent u) v) (below-weights (suc (n .arcs)) u j (omega arith)))

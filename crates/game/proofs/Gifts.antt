@@ -24,10 +24,24 @@ lowest-sum (suc n) r a =
     ⊎-elim
     (λ (e : a n ≡ true).
     elim (decLt (size n a) r) [
-      | yes l ↦ omega (arith, lowest-sum n r a, size-more n a, pick-yes 1 e, pick-yes (pick (ltb (size n a) r) 1) e, pick-yes 1 (lt-ltb (size n a) r l))
-      | no l ↦ omega (arith, lowest-sum n r a, size-more n a, pick-yes (pick (ltb (size n a) r) 1) e, pick-no 1 (le-ltb (size n a) r (omega arith)))
+      | yes l ↦ omega (
+        arith,
+        lowest-sum n r a,
+        size-more n a,
+        pick-yes 1 e,
+        pick-yes (pick (ltb (size n a) r) 1) e,
+        pick-yes 1 (lt-ltb (size n a) r l),
+      )
+      | no l ↦ omega (
+        arith,
+        lowest-sum n r a,
+        size-more n a,
+        pick-yes (pick (ltb (size n a) r) 1) e,
+        pick-no 1 (le-ltb (size n a) r (omega arith)),
+      )
     ])
-    (λ (e : a n ≡ false). omega (arith, lowest-sum n r a, size-more n a, pick-no 1 e, pick-no (pick (ltb (size n a) r) 1) e))
+    (λ (e : a n ≡ false). omega
+    (arith, lowest-sum n r a, size-more n a, pick-no 1 e, pick-no (pick (ltb (size n a) r) 1) e))
     (both (a n))
 
 pub gift-even : (n : Network) (k : ℕ) → 0 < userCount n k → Even n k (gift n k)

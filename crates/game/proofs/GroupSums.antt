@@ -15,7 +15,8 @@ unfolding overAll
 over-append f [] r = omega arith
 over-append f (g ∷ l) r = omega (arith, over-append f l r)
 
-over-map : (f : List Bool → ℕ) (h : List Bool → List Bool) (l : List (List Bool)) → overAll f (map h l) ≡ overAll (λ g. f (h g)) l
+over-map : (f : List Bool → ℕ) (h : List Bool → List Bool) (l : List (List Bool))
+    → overAll f (map h l) ≡ overAll (λ g. f (h g)) l
 unfolding overAll
 over-map f h [] = refl
 over-map f h (g ∷ l) = omega (arith, over-map f h l)
@@ -43,12 +44,14 @@ unfolding overAll
 over-times c f [] = sym (mul-zero c)
 over-times c f (g ∷ l) = omega (arith, over-times c f l)
 
-pub over-pick : (b : Bool) (f : List Bool → ℕ) (l : List (List Bool)) → overAll (λ g. pick b (f g)) l ≡ pick b (overAll f l)
+pub over-pick : (b : Bool) (f : List Bool → ℕ) (l : List (List Bool))
+    → overAll (λ g. pick b (f g)) l ≡ pick b (overAll f l)
 over-pick true f l = refl
 over-pick false f l = over-zero l
 
 -- a sum over groups and one over numbers change places
-pub over-sum : (m : ℕ) (f : ℕ → List Bool → ℕ) (l : List (List Bool)) → overAll (λ g. sum m (λ k. f k g)) l ≡ sum m (λ k. overAll (f k) l)
+pub over-sum : (m : ℕ) (f : ℕ → List Bool → ℕ) (l : List (List Bool))
+    → overAll (λ g. sum m (λ k. f k g)) l ≡ sum m (λ k. overAll (f k) l)
 unfolding overAll
 over-sum m f [] = sym (sum-zero m (λ k i. refl))
 over-sum m f (g ∷ l) = omega (arith, over-sum m f l, sum-add m (λ k. f k g) (λ k. overAll (f k) l))

@@ -1,4 +1,10 @@
--- The game over groups: used arcs from the children up, the empty group and all, larger groups, and inequality (2) of the source.
+-- The game over groups of vertices.
+--
+--   used-of, used-by              an arc is used, with the member `UsedBy` that uses it
+--   used-child, used-children     from the children up
+--   empty-cost, everyone-cost     nobody and everyone
+--   cost-mono, submodular         a larger group; inequality (2) of the paper
+--   below-child, child-below      children and what is below
 use Prim.Native.Nat.{ℕ, zero, suc, _+_, _≤_}
 use mathlib.Core.Path.{_≡_, refl, sym, ap, _∙_, subst}
 use mathlib.Core.Bool.{Bool, true, false, not, _&&_, _||_}
@@ -9,9 +15,11 @@ use lib.Dec.{eqb}
 use Rattle.basics.specs.Sum.{pick, some}
 use Rattle.game.specs.Network.{Network, atOrBelow, user, used, groupCost, everyone, wholeCost}
 use Rattle.game.proofs.Counted.{atCounted}
-use Rattle.basics.proofs.Bools.{both, clash, not-so, and-both, and-first, and-second, or-first, or-second, or-cases, same-test, pick-no, pick-mono, pick-two}
+use Rattle.basics.proofs.Bools.{both, clash, not-so, and-both, and-first, and-second, or-first, or-second, or-cases}
+use Rattle.basics.proofs.Bools.{same-test, pick-no, pick-mono, pick-two}
 use Rattle.basics.proofs.Sums.{In, Some, some-of, some-is, sum-mono, sum-zero, sum-add}
-use Rattle.game.proofs.Below.{Rooted, from-source, below-self, below-parent, below-trans, below-cases, below-source}
+use Rattle.game.proofs.Below.{Rooted, from-source, below-self, below-parent, below-trans, below-cases}
+use Rattle.game.proofs.Below.{below-source}
 
 module _ (n : Network) where
   -- a member of the group that uses arc k
@@ -38,13 +46,15 @@ module _ (n : Network) where
 
   used-more : (g h : ℕ → Bool) (k : ℕ) → ((v : ℕ) → g v ≡ true → h v ≡ true) → used n g k ≡ true → used n h k ≡ true
   used-more g h k sub u =
-      let b = used-by g k u in used-of (record { by = b .by; within = b .within; chosen = sub (b .by) (b .chosen); uses = b .uses })
+      let b = used-by g k u in
+      used-of (record { by = b .by; within = b .within; chosen = sub (b .by) (b .chosen); uses = b .uses })
 
   pub empty-cost : groupCost n (λ v. false) ≡ 0
   unfolding groupCost
   empty-cost =
       sum-zero (n .arcs)
-      (λ k i. pick-no (n .cost k) (not-so (used n (λ v. false) k) (λ u. clash {b = false} (used-by (λ v. false) k u .chosen) refl)))
+      (λ k i. pick-no (n .cost k)
+      (not-so (used n (λ v. false) k) (λ u. clash {b = false} (used-by (λ v. false) k u .chosen) refl)))
 
   pub everyone-cost : groupCost n everyone ≡ wholeCost (atCounted n)
   unfolding groupCost wholeCost
@@ -55,17 +65,21 @@ module _ (n : Network) where
   cost-mono g h sub = sum-mono (n .arcs) (λ k i. pick-mono (used n g k) (used n h k) (n .cost k) (used-more g h k sub))
 
   -- g is part of h, and what is taken out of h is in g: taking it out saves g at least as much as h
-  pub submodular : (g h r : ℕ → Bool) → ((v : ℕ) → g v ≡ true → h v ≡ true) → ((v : ℕ) → h v ≡ true → r v ≡ true → g v ≡ true)
+  pub submodular : (g h r : ℕ → Bool) → ((v : ℕ) → g v ≡ true → h v ≡ true)
+      → ((v : ℕ) → h v ≡ true → r v ≡ true → g v ≡ true)
       → groupCost n h + groupCost n (λ v. g v && not (r v)) ≤ groupCost n g + groupCost n (λ v. h v && not (r v))
   unfolding groupCost
   submodular g h r sub out =
       omega (
         arith,
-        sum-mono (n .arcs) {f = λ k. pick (used n h k) (n .cost k) + pick (used n g∖r k) (n .cost k)} {g = λ k. pick (used n g k) (n .cost k) + pick (used n h∖r k) (n .cost k)}
+        sum-mono
+            (n .arcs) {f = λ k. pick (used n h k) (n .cost k) + pick (used n g∖r k) (n .cost k)}
+            {g = λ k. pick (used n g k) (n .cost k) + pick (used n h∖r k) (n .cost k)}
             (λ k i.
             pick-two (used n h k) (used n g∖r k) (used n g k) (used n h∖r k) (n .cost k)
             (used-more g∖r g k (λ v e. and-first (g v) (not (r v)) e))
-            (used-more g∖r h∖r k (λ v e. and-both (sub v (and-first (g v) (not (r v)) e)) (and-second (g v) (not (r v)) e)))
+            (used-more g∖r h∖r k
+            (λ v e. and-both (sub v (and-first (g v) (not (r v)) e)) (and-second (g v) (not (r v)) e)))
             (λ u. either k (used-by h k u))),
         sum-add (n .arcs) (λ k. pick (used n h k) (n .cost k)) (λ k. pick (used n g∖r k) (n .cost k)),
         sum-add (n .arcs) (λ k. pick (used n g k) (n .cost k)) (λ k. pick (used n h∖r k) (n .cost k)),
@@ -83,15 +97,18 @@ module _ (n : Network) where
           (λ (e : r (b .by) ≡ true).
           inl (used-of (record { by = b .by; within = b .within; chosen = out (b .by) (b .chosen) e; uses = b .uses })))
           (λ (e : r (b .by) ≡ false).
-          inr (used-of (record { by = b .by; within = b .within; chosen = and-both (b .chosen) (ap not e); uses = b .uses })))
+          inr (used-of
+          (record { by = b .by; within = b .within; chosen = and-both (b .chosen) (ap not e); uses = b .uses })))
           (both (r (b .by)))
 
 -- an arc is used exactly when its own vertex is a member of the group, or one of its child arcs is used
 module _ (n : Network) (rooted : Rooted n) where
-  pub below-child : (k : ℕ) → (v : ℕ) → v ≤ n .arcs → atOrBelow n k v ≡ true → (k ≡ v) ⊎ Some (n .arcs) (λ u. eqb (n .parent u) k && atOrBelow n u v)
+  pub below-child : (k : ℕ) → (v : ℕ) → v ≤ n .arcs → atOrBelow n k v ≡ true
+      → (k ≡ v) ⊎ Some (n .arcs) (λ u. eqb (n .parent u) k && atOrBelow n u v)
   below-child k =
       from-source n rooted
-      (λ v. v ≤ n .arcs → atOrBelow n k v ≡ true → (k ≡ v) ⊎ Some (n .arcs) (λ u. eqb (n .parent u) k && atOrBelow n u v))
+      (λ v. v ≤ n .arcs → atOrBelow n k v ≡ true
+      → (k ≡ v) ⊎ Some (n .arcs) (λ u. eqb (n .parent u) k && atOrBelow n u v))
       (λ h b. inl (eqb-true k 0 (sym (below-source n rooted k) ∙ b)))
       (λ v ih h b.
       ⊎-elim
@@ -112,7 +129,8 @@ module _ (n : Network) (rooted : Rooted n) where
         within = s .within;
         passes =
             and-both (and-first (eqb (n .parent (s .which)) k) (atOrBelow n (s .which) (n .parent (suc v))) (s .passes))
-            (below-parent n rooted (s .which) v (and-second (eqb (n .parent (s .which)) k) (atOrBelow n (s .which) (n .parent (suc v))) (s .passes)));
+            (below-parent n rooted (s .which) v
+            (and-second (eqb (n .parent (s .which)) k) (atOrBelow n (s .which) (n .parent (suc v))) (s .passes)));
       }))
       (ih (omega (arith, rooted v)) b′))
       (below-cases n rooted k v b))
@@ -120,7 +138,8 @@ module _ (n : Network) (rooted : Rooted n) where
   -- a child is below its parent
   pub child-below : (k u : ℕ) → In (n .arcs) u → n .parent u ≡ k → atOrBelow n k u ≡ true
   child-below k zero i e = absurd (omega arith)
-  child-below k (suc u) i e = below-parent n rooted k u (subst (λ (w : ℕ). atOrBelow n k w ≡ true) (sym e) (below-self n rooted k))
+  child-below k (suc u) i e =
+      below-parent n rooted k u (subst (λ (w : ℕ). atOrBelow n k w ≡ true) (sym e) (below-self n rooted k))
 
   pub used-child : (g : ℕ → Bool) (k u : ℕ) → In (n .arcs) u → n .parent u ≡ k → used n g u ≡ true → used n g k ≡ true
   used-child g k u i e h =
@@ -132,7 +151,8 @@ module _ (n : Network) (rooted : Rooted n) where
         chosen = b .chosen;
         uses =
             and-both (and-first (n .member (b .by)) (atOrBelow n u (b .by)) (b .uses))
-            (below-trans n rooted k u (b .by) (child-below k u i e) (and-second (n .member (b .by)) (atOrBelow n u (b .by)) (b .uses)));
+            (below-trans n rooted k u (b .by) (child-below k u i e)
+            (and-second (n .member (b .by)) (atOrBelow n u (b .by)) (b .uses)));
       })
 
   pub used-children : (g : ℕ → Bool) (k : ℕ) → In (n .arcs) k
@@ -146,7 +166,8 @@ module _ (n : Network) (rooted : Rooted n) where
       down b =
           let m = and-first (n .member (b .by)) (atOrBelow n k (b .by)) (b .uses) in
           ⊎-elim
-          (λ (e : k ≡ b .by). or-first (some (n .arcs) (λ u. eqb (n .parent u) k && used n g u)) (and-both (ap g e ∙ b .chosen) (ap (n .member) e ∙ m)))
+          (λ (e : k ≡ b .by). or-first (some (n .arcs) (λ u. eqb (n .parent u) k && used n g u))
+          (and-both (ap g e ∙ b .chosen) (ap (n .member) e ∙ m)))
           (λ (s : Some (n .arcs) (λ u. eqb (n .parent u) k && atOrBelow n u (b .by))).
           or-second (g k && n .member k)
           (some-of (n .arcs) (s .which) (λ u. eqb (n .parent u) k && used n g u) (s .within)
@@ -160,7 +181,8 @@ module _ (n : Network) (rooted : Rooted n) where
           })))))
           (below-child k (b .by) (b .within .high) (and-second (n .member (b .by)) (atOrBelow n k (b .by)) (b .uses)))
 
-      up : ((g k && n .member k) ≡ true) ⊎ (some (n .arcs) (λ u. eqb (n .parent u) k && used n g u) ≡ true) → used n g k ≡ true
+      up : ((g k && n .member k) ≡ true) ⊎ (some (n .arcs) (λ u. eqb (n .parent u) k && used n g u) ≡ true)
+          → used n g k ≡ true
       up (inl e) =
           used-of n
           (record {
@@ -172,5 +194,6 @@ module _ (n : Network) (rooted : Rooted n) where
       up (inr e) =
           let s = some-is (n .arcs) (λ u. eqb (n .parent u) k && used n g u) e in
           used-child g k (s .which) (s .within)
-          (eqb-true (n .parent (s .which)) k (and-first (eqb (n .parent (s .which)) k) (used n g (s .which)) (s .passes)))
+          (eqb-true (n .parent (s .which)) k
+          (and-first (eqb (n .parent (s .which)) k) (used n g (s .which)) (s .passes)))
           (and-second (eqb (n .parent (s .which)) k) (used n g (s .which)) (s .passes))

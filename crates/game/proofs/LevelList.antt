@@ -1,4 +1,5 @@
--- The level rule on lists in member order: the list that it gives, seen by vertex, is what the rule's theorem speaks of.
+-- The level rule on lists in member order: the list that it gives, seen by vertex, is what the rule's theorem speaks
+-- of.
 use Prim.Native.Nat.{ℕ, zero, suc, pred, _+_, _*_, _≤_, _<_}
 use mathlib.Core.Path.{_≡_, refl, sym, ap, _∙_}
 use mathlib.Core.Bool.{true, false}
@@ -36,8 +37,11 @@ module _ (n : Network) where
   view-off l v i m = pick-no (getD l (number n v) 0) m
 
   -- members with one number are one
-  one-number : (u v : ℕ) → In (n .arcs) u → In (n .arcs) v → n .member u ≡ true → n .member v ≡ true → number n u ≡ number n v → u ≡ v
-  one-number u v i j a b e = sym (member-at (n .member) (n .arcs) u i a) ∙ ap (λ (k : ℕ). getD (members n) k 0) e ∙ member-at (n .member) (n .arcs) v j b
+  one-number : (u v : ℕ) → In (n .arcs) u → In (n .arcs) v → n .member u ≡ true → n .member v ≡ true
+      → number n u ≡ number n v → u ≡ v
+  one-number u v i j a b e =
+      sym (member-at (n .member) (n .arcs) u i a) ∙ ap (λ (k : ℕ). getD (members n) k 0) e
+      ∙ member-at (n .member) (n .arcs) v j b
 
   view-bump : (l : List ℕ) (v u : ℕ) → length l ≡ memberCount n → In (n .arcs) v → n .member v ≡ true → In (n .arcs) u
       → bump (view l) v u ≡ view (set l (number n v) (getD l (number n v) 0 + 1)) u
@@ -64,19 +68,22 @@ module _ (n : Network) where
             getD-set-same l (number n v) (getD l (number n v) 0 + 1) 0 (omega (arith, number-lt n v i m)),
           ))
 
-      other : n .member u ≡ true → (u ≡ v → ⊥) → bump (view l) v u ≡ view (set l (number n v) (getD l (number n v) 0 + 1)) u
+      other : n .member u ≡ true → (u ≡ v → ⊥)
+          → bump (view l) v u ≡ view (set l (number n v) (getD l (number n v) 0 + 1)) u
       other a e =
           omega (
             arith,
             pick-no 1 (ne-eqb u v e),
             pick-yes (getD l (number n u) 0) a,
             pick-yes (getD (set l (number n v) (getD l (number n v) 0 + 1)) (number n u) 0) a,
-            getD-set-other l (number n v) (number n u) (getD l (number n v) 0 + 1) 0 (λ d. e (one-number u v j i a m d)),
+            getD-set-other l (number n v) (number n u) (getD l (number n v) 0 + 1) 0
+                (λ d. e (one-number u v j i a m d)),
           )
 
 module _ (n : Network) (cap amount : ℕ → ℕ) where
   -- lists that agree at every vertex
-  reached-same : (k t : ℕ) (x y : ℕ → ℕ) → ((v : ℕ) → In (n .arcs) v → x v ≡ y v) → Reached n cap amount k t x → Reached n cap amount k t y
+  reached-same : (k t : ℕ) (x y : ℕ → ℕ) → ((v : ℕ) → In (n .arcs) v → x v ≡ y v) → Reached n cap amount k t x
+      → Reached n cap amount k t y
   reached-same k t x y same r =
       record {
         off = λ v i m. sym (same v i) ∙ r .off v i m;
@@ -101,10 +108,12 @@ module _ (n : Network) (rooted : Rooted n) (caps : List ℕ) (amount : ℕ → �
     (enough : (k : ℕ) → In (n .arcs) k → lower n amount k ≤ sumBelow n (view n caps) k) where
   module _ (k t : ℕ) (i : In (n .arcs) k) (h : t < amount k) (l : List ℕ) (s : Stands n caps amount k t l) where
     -- a user below its cap may take a unit
-    may : (v : ℕ) → In (n .arcs) v → n .member v ≡ true → atOrBelow n k v ≡ true → view n l v < view n caps v → mayTake n caps k l (number n v) ≡ true
+    may : (v : ℕ) → In (n .arcs) v → n .member v ≡ true → atOrBelow n k v ≡ true → view n l v < view n caps v
+        → mayTake n caps k l (number n v) ≡ true
     may v j m b lt =
         and-both (users-at n k v j m ∙ b)
-        (lt-ltb (getD l (number n v) 0) (getD caps (number n v) 0) (omega (arith, pick-yes (getD l (number n v) 0) m, pick-yes (getD caps (number n v) 0) m)))
+        (lt-ltb (getD l (number n v) 0) (getD caps (number n v) 0)
+        (omega (arith, pick-yes (getD l (number n v) 0) m, pick-yes (getD caps (number n v) 0) m)))
 
     free : More n rooted (view n l) (view n caps) k
     free = some-free n rooted (view n caps) amount (view-off n caps) enough k t (view n l) i h (s .reached)
@@ -113,7 +122,8 @@ module _ (n : Network) (rooted : Rooted n) (caps : List ℕ) (amount : ℕ → �
     free-member =
         ⊎-elim
         (λ (m : n .member (free .at) ≡ true). m)
-        (λ (m : n .member (free .at) ≡ false). absurd (omega (arith, view-off n caps (free .at) (free .within) m, free .more)))
+        (λ (m : n .member (free .at) ≡ false). absurd
+        (omega (arith, view-off n caps (free .at) (free .within) m, free .more)))
         (both (n .member (free .at)))
 
     chosen : ℕ
@@ -145,17 +155,25 @@ module _ (n : Network) (rooted : Rooted n) (caps : List ℕ) (amount : ℕ → �
         record {
           within = who .within;
           is-member = who .is-member;
-          below = sym (users-at n k (who .vertex) (who .within) (who .is-member)) ∙ ap (users n k) (who .numbered) ∙ is-user;
+          below =
+              sym (users-at n k (who .vertex) (who .within) (who .is-member)) ∙ ap (users n k) (who .numbered)
+              ∙ is-user;
           room =
               omega (
                 arith,
                 seen l,
                 seen caps,
                 ltb-true (getD l (pred chosen) 0) (getD caps (pred chosen) 0)
-                    (and-second (users n k (pred chosen)) (ltb (getD l (pred chosen) 0) (getD caps (pred chosen) 0)) (one .1)),
+                    (and-second (users n k (pred chosen)) (ltb (getD l (pred chosen) 0) (getD caps (pred chosen) 0))
+                    (one .1)),
               );
           smallest = λ v j m b lt.
-              omega (arith, seen l, pick-yes (getD l (number n v) 0) m, best .is-least (number n v) (number-lt n v j m) (may v j m b lt) .1);
+              omega (
+                arith,
+                seen l,
+                pick-yes (getD l (number n v) 0) m,
+                best .is-least (number n v) (number-lt n v j m) (may v j m b lt) .1,
+              );
         }
 
     next : oneMore l chosen ≡ set l (number n (who .vertex)) (getD l (number n (who .vertex)) 0 + 1)
@@ -170,23 +188,32 @@ module _ (n : Network) (rooted : Rooted n) (caps : List ℕ) (amount : ℕ → �
         (record {
           sized = length-set l (number n (who .vertex)) (getD l (number n (who .vertex)) 0 + 1) ∙ s .sized;
           reached =
-              reached-same n (view n caps) amount k (suc t) (bump (view n l) (who .vertex)) (view n (set l (number n (who .vertex)) (getD l (number n (who .vertex)) 0 + 1)))
+              reached-same n (view n caps) amount k (suc t) (bump (view n l) (who .vertex))
+              (view n (set l (number n (who .vertex)) (getD l (number n (who .vertex)) 0 + 1)))
               (λ u j. view-bump n l (who .vertex) u (s .sized) (who .within) (who .is-member) j)
-              (one-unit n rooted (view n caps) amount (view-off n caps) enough k t (view n l) i h (s .reached) (who .vertex) choice);
+              (one-unit n rooted (view n caps) amount (view-off n caps) enough k t (view n l) i h (s .reached)
+              (who .vertex) choice);
         })
 
-  all-units : (k t : ℕ) (l : List ℕ) → In (n .arcs) k → t ≤ amount k → Stands n caps amount k 0 l → Stands n caps amount k t (units n caps k t l)
+  all-units : (k t : ℕ) (l : List ℕ) → In (n .arcs) k → t ≤ amount k → Stands n caps amount k 0 l
+      → Stands n caps amount k t (units n caps k t l)
   unfolding units
   all-units k zero l i h s = s
   all-units k (suc t) l i h s = one-more k t i (omega arith) (units n caps k t l) (all-units k t l i (omega arith) s)
 
   -- one arc more is finished
-  pub next-arc : (k : ℕ) (l : List ℕ) → suc k ≤ n .arcs → Stands n caps amount (suc k) 0 l → Stands n caps amount k 0 (units n caps (suc k) (amount (suc k)) l)
+  pub next-arc : (k : ℕ) (l : List ℕ) → suc k ≤ n .arcs → Stands n caps amount (suc k) 0 l
+      → Stands n caps amount k 0 (units n caps (suc k) (amount (suc k)) l)
   next-arc k l h s =
       let done = all-units (suc k) (amount (suc k)) l (omega arith) (omega arith) s in
-      record { sized = done .sized; reached = finish n rooted (view n caps) amount (view-off n caps) enough k (view n (units n caps (suc k) (amount (suc k)) l)) h (done .reached) }
+      record {
+        sized = done .sized;
+        reached = finish n rooted (view n caps) amount (view-off n caps) enough k
+            (view n (units n caps (suc k) (amount (suc k)) l)) h (done .reached);
+      }
 
-  all-arcs : (k : ℕ) (l : List ℕ) → k ≤ n .arcs → Stands n caps amount k 0 l → Stands n caps amount 0 0 (arcsDown n caps amount k l)
+  all-arcs : (k : ℕ) (l : List ℕ) → k ≤ n .arcs → Stands n caps amount k 0 l
+      → Stands n caps amount 0 0 (arcsDown n caps amount k l)
   unfolding arcsDown
   all-arcs zero l h s = s
   all-arcs (suc k) l h s = all-arcs k (units n caps (suc k) (amount (suc k)) l) (omega arith) (next-arc k l h s)

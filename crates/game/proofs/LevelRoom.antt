@@ -26,7 +26,8 @@ module _ (n : Network) (caps : List ℕ) (most : ℕ) (limited : (j : ℕ) → g
 
   -- at a member's vertex
   user-left : (v : ℕ) → In (n .arcs) v → n .member v ≡ true
-      → pick (atOrBelow n k v) (view n caps v) ≤ pick (n .member v) (left-of (number n v)) + pick (atOrBelow n k v) (view n l v)
+      → pick (atOrBelow n k v) (view n caps v)
+      ≤ pick (n .member v) (left-of (number n v)) + pick (atOrBelow n k v) (view n l v)
   unfolding left-of
   user-left v i m =
       let c = getD caps (number n v) 0 in
@@ -53,14 +54,17 @@ module _ (n : Network) (caps : List ℕ) (most : ℕ) (limited : (j : ℕ) → g
       (both (atOrBelow n k v))
 
   vertex-left : (v : ℕ) → In (n .arcs) v
-      → pick (atOrBelow n k v) (view n caps v) ≤ pick (n .member v) (left-of (number n v)) + pick (atOrBelow n k v) (view n l v)
+      → pick (atOrBelow n k v) (view n caps v)
+      ≤ pick (n .member v) (left-of (number n v)) + pick (atOrBelow n k v) (view n l v)
   vertex-left v i =
       ⊎-elim
       (λ (m : n .member v ≡ true). user-left v i m)
       (λ (m : n .member v ≡ false). rw (view-off n caps v i m, pick-zero (atOrBelow n k v)) (omega arith))
       (both (n .member v))
 
-  pub enough-left : Rooted n → (amount : ℕ → ℕ) → ((f : ℕ) → In (n .arcs) f → lower n amount f ≤ sumBelow n (view n caps) f) → In (n .arcs) k → Stands n caps amount k 0 l
+  pub enough-left : Rooted n → (amount : ℕ → ℕ)
+      → ((f : ℕ) → In (n .arcs) f → lower n amount f ≤ sumBelow n (view n caps) f) → In (n .arcs) k
+      → Stands n caps amount k 0 l
       → amount k ≤ fill n caps k l most 0
   unfolding left-of sumBelow
   enough-left rooted amount enough i s =
@@ -69,6 +73,8 @@ module _ (n : Network) (caps : List ℕ) (most : ℕ) (limited : (j : ℕ) → g
         so-far n rooted (view n caps) amount (view-off n caps) enough k 0 (view n l) i (s .reached),
         enough k i,
         members-sum (n .arcs) (n .member) left-of,
-        sum-mono (n .arcs) {f = λ v. pick (atOrBelow n k v) (view n caps v)} {g = λ v. pick (n .member v) (left-of (number n v)) + pick (atOrBelow n k v) (view n l v)} vertex-left,
+        sum-mono
+            (n .arcs) {f = λ v. pick (atOrBelow n k v) (view n caps v)}
+            {g = λ v. pick (n .member v) (left-of (number n v)) + pick (atOrBelow n k v) (view n l v)} vertex-left,
         sum-add (n .arcs) (λ v. pick (n .member v) (left-of (number n v))) (λ v. pick (atOrBelow n k v) (view n l v)),
       )

@@ -22,7 +22,8 @@ meets zero g a = false
 meets (suc n) g a = meets n g a || (g n && a n)
 
 -- from the first number on
-pub meets-first : (n : ℕ) (g a : ℕ → Bool) → meets (suc n) g a ≡ ((g 0 && a 0) || meets n (λ j. g (suc j)) (λ j. a (suc j)))
+pub meets-first : (n : ℕ) (g a : ℕ → Bool)
+    → meets (suc n) g a ≡ ((g 0 && a 0) || meets n (λ j. g (suc j)) (λ j. a (suc j)))
 unfolding meets
 meets-first zero g a = sym (or-false (g 0 && a 0))
 meets-first (suc n) g a =
@@ -72,7 +73,8 @@ meets-more n g a i h =
     parts : Shared n (λ j. g j || eqb j i) a → (meets n g a || a i) ≡ true
     parts s =
         ⊎-elim
-        (λ (e : g (s .which) ≡ true). or-first (a i) (meets-of (record { which = s .which; below = s .below; one = e; other = s .other })))
+        (λ (e : g (s .which) ≡ true). or-first (a i)
+        (meets-of (record { which = s .which; below = s .below; one = e; other = s .other })))
         (λ (e : eqb (s .which) i ≡ true). or-second (meets n g a) (sym (ap a (eqb-true (s .which) i e)) ∙ s .other))
         (or-cases (g (s .which)) (eqb (s .which) i) (s .one))
 
@@ -82,7 +84,8 @@ meets-more n g a i h =
         record { which = s .which; below = s .below; one = or-first (eqb (s .which) i) (s .one); other = s .other }
     whole (inr u) = record { which = i; below = h; one = or-second (g i) (eq-eqb i i refl); other = u }
 
-pub used-by-number : (n : Network) (g : ℕ → Bool) (k : ℕ) → used n (byNumber n g) k ≡ meets (memberCount n) g (users n k)
+pub used-by-number : (n : Network) (g : ℕ → Bool) (k : ℕ)
+    → used n (byNumber n g) k ≡ meets (memberCount n) g (users n k)
 used-by-number n g k =
     same-test (used n (byNumber n g) k) (meets (memberCount n) g (users n k))
     (λ e. meets-of (by-number (used-by n (byNumber n g) k e)))
@@ -105,5 +108,7 @@ used-by-number n g k =
           by = v .vertex;
           within = v .within;
           chosen = ap g (v .numbered) ∙ s .one;
-          uses = and-both (v .is-member) (sym (users-at n k (v .vertex) (v .within) (v .is-member)) ∙ ap (users n k) (v .numbered) ∙ s .other);
+          uses =
+              and-both (v .is-member)
+              (sym (users-at n k (v .vertex) (v .within) (v .is-member)) ∙ ap (users n k) (v .numbered) ∙ s .other);
         }

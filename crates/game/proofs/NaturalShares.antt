@@ -28,11 +28,13 @@ module _ (n : Network) (l : List ℕ) where
       sum-pos-ℤ (memberCount n) (λ j. pickℤ (g j) (share (map pos l) j)) (λ j. pick (g j) (getD l j 0))
       (λ j h. ap (pickℤ (g j)) (List·getD-map pos l j 0) ∙ pick-pos-ℤ (g j) (getD l j 0))
 
-  pub natural-core : has (λ j. true) ≡ wholeCost n → ((k : ℕ) → IsArc n k → need n k ≤ has (users n k)) → CoreByNeed n (map pos l)
+  pub natural-core : has (λ j. true) ≡ wholeCost n → ((k : ℕ) → IsArc n k → need n k ≤ has (users n k))
+      → CoreByNeed n (map pos l)
   natural-core all enough =
       record {
         adds-up = pays-pos (λ j. true) ∙ ap pos all;
         users-enough = λ k i.
             rw (pays-pos (users n k))
-            (less-le (pos (need n k)) (pos (has (users n k))) (less-parts (pos (need n k))) (less-parts (pos (has (users n k)))) (omega (arith, enough k i)));
+            (less-le (pos (need n k)) (pos (has (users n k))) (less-parts (pos (need n k)))
+            (less-parts (pos (has (users n k)))) (omega (arith, enough k i)));
       }

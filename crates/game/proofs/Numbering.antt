@@ -1,4 +1,9 @@
--- The members' list: its length, and where a member stands in it.
+-- The members' list.
+--
+--   members-length                its length is the number of members
+--   member-at                     a member stands at its number
+--   vertex-of                     the vertex of a member number
+--   before-member                 the number of the next member
 use Prim.Native.Nat.{ℕ, zero, suc, pred, _+_, _<_}
 use mathlib.Core.Path.{_≡_, refl, sym, ap, ap₂, _∙_}
 use mathlib.Core.Bool.{Bool, true, false}
@@ -71,7 +76,9 @@ module _ (m : ℕ → Bool) where
   vertex-of (suc n) j h =
       elim (decLt j (count n m)) [
         | yes l ↦
-            let v = vertex-of n j l in record { vertex = v .vertex; within = in-more (v .within); is-member = v .is-member; numbered = v .numbered }
+            let v = vertex-of n j l in
+            record
+            { vertex = v .vertex; within = in-more (v .within); is-member = v .is-member; numbered = v .numbered }
         | no l ↦
             let p = pick-pos (m (suc n)) 1 (omega arith) in
             record { vertex = suc n; within = in-last n; is-member = p .0; numbered = omega (arith, pick-yes 1 (p .0)) }

@@ -1,4 +1,9 @@
--- What a group pays and overpays, by member numbers and by vertices, in positive and negative parts.
+-- What a group pays and overpays, by vertex instead of by member number, and in ℕ instead of ℤ.
+--
+--   members-sum, by-vertex        a sum over member numbers as a sum over vertices
+--   less-pays, less-over          pays and overpayment by their parts
+--   cost-same, overpayment-same   groups that agree on the members
+--   meet-overpays                 two groups that overpay most: so does what they share
 use Prim.Native.Nat.{ℕ, zero, suc, pred, _+_, _≤_, _<_}
 use mathlib.Core.Path.{_≡_, refl, sym, ap, ap₂, _∙_}
 use mathlib.Core.Bool.{Bool, true, false, not, _&&_, _||_}
@@ -35,32 +40,41 @@ members-sum (suc m) mem x =
 
 module _ (n : Network) where
   pub number-lt : (v : ℕ) → In (n .arcs) v → n .member v ≡ true → number n v < memberCount n
-  number-lt v i m = omega (arith, before-member (n .member) v (i .low) m, sum-longer v (n .arcs) (λ k. pick (n .member k) 1) (i .high))
+  number-lt v i m =
+      omega
+      (arith, before-member (n .member) v (i .low) m, sum-longer v (n .arcs) (λ k. pick (n .member k) 1) (i .high))
 
   -- a group's cost goes by its members alone
-  pub cost-same : (g h : ℕ → Bool) → ((v : ℕ) → In (n .arcs) v → n .member v ≡ true → g v ≡ h v) → groupCost n g ≡ groupCost n h
+  pub cost-same : (g h : ℕ → Bool) → ((v : ℕ) → In (n .arcs) v → n .member v ≡ true → g v ≡ h v)
+      → groupCost n g ≡ groupCost n h
   unfolding groupCost
   cost-same g h same =
       sum-cong (n .arcs)
-      (λ k i. ap (λ (b : Bool). pick b (n .cost k)) (same-test (used n g k) (used n h k) (over g h k same) (over h g k (λ v j m. sym (same v j m)))))
+      (λ k i. ap (λ (b : Bool). pick b (n .cost k))
+      (same-test (used n g k) (used n h k) (over g h k same) (over h g k (λ v j m. sym (same v j m)))))
     where
-      over : (g h : ℕ → Bool) (k : ℕ) → ((v : ℕ) → In (n .arcs) v → n .member v ≡ true → g v ≡ h v) → used n g k ≡ true → used n h k ≡ true
+      over : (g h : ℕ → Bool) (k : ℕ) → ((v : ℕ) → In (n .arcs) v → n .member v ≡ true → g v ≡ h v)
+          → used n g k ≡ true → used n h k ≡ true
       over g h k same u =
           let b = used-by n g k u in
           used-of n
           (record {
             by = b .by;
             within = b .within;
-            chosen = sym (same (b .by) (b .within) (and-first (n .member (b .by)) (atOrBelow n k (b .by)) (b .uses))) ∙ b .chosen;
+            chosen =
+                sym (same (b .by) (b .within) (and-first (n .member (b .by)) (atOrBelow n k (b .by)) (b .uses)))
+                ∙ b .chosen;
             uses = b .uses;
           })
 
   -- two groups cost at least what they cost joined and what they share
-  cost-meet-join : (g h : ℕ → Bool) → groupCost n (λ v. g v || h v) + groupCost n (λ v. g v && h v) ≤ groupCost n g + groupCost n h
+  cost-meet-join : (g h : ℕ → Bool)
+      → groupCost n (λ v. g v || h v) + groupCost n (λ v. g v && h v) ≤ groupCost n g + groupCost n h
   cost-meet-join g h =
       omega (
         arith,
-        submodular n g (λ v. g v || h v) (λ v. g v && not (h v)) (λ v e. or-first (h v) e) (λ v e d. and-first (g v) (not (h v)) d),
+        submodular n g (λ v. g v || h v) (λ v. g v && not (h v)) (λ v e. or-first (h v) e)
+            (λ v e d. and-first (g v) (not (h v)) d),
         cost-same (λ v. g v && not (g v && not (h v))) (λ v. g v && h v) (λ v i m. meet (g v) (h v)),
         cost-same (λ v. (g v || h v) && not (g v && not (h v))) h (λ v i m. rest (g v) (h v)),
       )
@@ -77,7 +91,8 @@ module _ (n : Network) where
       rest false false = refl
 
   sum-meet-join : (x : ℕ → ℕ) (g h : ℕ → Bool)
-      → sum (n .arcs) (λ v. pick (g v || h v) (x v)) + sum (n .arcs) (λ v. pick (g v && h v) (x v)) ≡ sum (n .arcs) (λ v. pick (g v) (x v)) + sum (n .arcs) (λ v. pick (h v) (x v))
+      → sum (n .arcs) (λ v. pick (g v || h v) (x v)) + sum (n .arcs) (λ v. pick (g v && h v) (x v))
+      ≡ sum (n .arcs) (λ v. pick (g v) (x v)) + sum (n .arcs) (λ v. pick (h v) (x v))
   sum-meet-join x g h =
       sym (sum-add (n .arcs) (λ v. pick (g v || h v) (x v)) (λ v. pick (g v && h v) (x v)))
       ∙ sum-cong (n .arcs) (λ v i. both-parts (g v) (h v) (x v))
@@ -94,7 +109,8 @@ module _ (n : Network) where
   pub by-vertex : (g : ℕ → Bool) (x : ℕ → ℕ)
       → sum₀ (memberCount n) (λ j. pick (g j) (x j)) ≡ group-sum (λ v. pick (n .member v) (x (number n v))) g
   by-vertex g x =
-      members-sum (n .arcs) (n .member) (λ j. pick (g j) (x j)) ∙ sum-cong (n .arcs) (λ v i. pick-swap (n .member v) (g (number n v)) (x (number n v)))
+      members-sum (n .arcs) (n .member) (λ j. pick (g j) (x j))
+      ∙ sum-cong (n .arcs) (λ v i. pick-swap (n .member v) (g (number n v)) (x (number n v)))
 
   module _ (shares : List ℤ) where
     -- the positive and the negative part of a member's share, at its vertex; 0 elsewhere
@@ -114,29 +130,41 @@ module _ (n : Network) where
           by-vertex g (λ j. minus (share shares j)),
         )
 
-    pub less-over : (g : ℕ → Bool) → Less (overpayment n shares g) (group-sum over-at g) (group-sum under-at g + groupCost n (byNumber n g))
+    pub less-over : (g : ℕ → Bool)
+        → Less (overpayment n shares g) (group-sum over-at g) (group-sum under-at g + groupCost n (byNumber n g))
     less-over g =
-        omega (arith, less-minus (pays n shares g) (pos (groupCost n (byNumber n g))) (less-pays g) (less-parts (pos (groupCost n (byNumber n g)))))
+        omega (
+          arith,
+          less-minus (pays n shares g) (pos (groupCost n (byNumber n g))) (less-pays g)
+              (less-parts (pos (groupCost n (byNumber n g)))),
+        )
 
     -- groups with the same members overpay the same
-    pub overpayment-same : (g h : ℕ → Bool) → ((j : ℕ) → j < memberCount n → g j ≡ h j) → overpayment n shares g ≡ overpayment n shares h
+    pub overpayment-same : (g h : ℕ → Bool) → ((j : ℕ) → j < memberCount n → g j ≡ h j)
+        → overpayment n shares g ≡ overpayment n shares h
     unfolding pays
     overpayment-same g h same =
         ap₂ (λ (a : ℤ) (c : ℕ). a -ℤ pos c) (sum-same (memberCount n) same)
         (cost-same (byNumber n g) (byNumber n h) (λ v i m. same (number n v) (number-lt v i m)))
       where
-        sum-same : (m : ℕ) → ((j : ℕ) → j < m → g j ≡ h j) → sumℤ m (λ j. pickℤ (g j) (share shares j)) ≡ sumℤ m (λ j. pickℤ (h j) (share shares j))
+        sum-same : (m : ℕ) → ((j : ℕ) → j < m → g j ≡ h j)
+            → sumℤ m (λ j. pickℤ (g j) (share shares j)) ≡ sumℤ m (λ j. pickℤ (h j) (share shares j))
         sum-same zero e = refl
-        sum-same (suc m) e = ap₂ (λ (a : ℤ) (b : Bool). a +ℤ pickℤ b (share shares m)) (sum-same m (λ j l. e j (omega arith))) (e m (omega arith))
+        sum-same (suc m) e =
+            ap₂ (λ (a : ℤ) (b : Bool). a +ℤ pickℤ b (share shares m)) (sum-same m (λ j l. e j (omega arith)))
+            (e m (omega arith))
 
     -- a group that overpays as much as one that overpays most shares as much with it
-    pub meet-overpays : (g h : ℕ → Bool) → overpayment n shares (λ j. g j || h j) ≤ℤ overpayment n shares g → overpayment n shares g ≤ℤ overpayment n shares h
+    pub meet-overpays : (g h : ℕ → Bool) → overpayment n shares (λ j. g j || h j) ≤ℤ overpayment n shares g
+        → overpayment n shares g ≤ℤ overpayment n shares h
         → overpayment n shares g ≤ℤ overpayment n shares (λ j. g j && h j)
     meet-overpays g h most much =
-        less-le (overpayment n shares g) (overpayment n shares (λ j. g j && h j)) (less-over g) (less-over (λ j. g j && h j))
+        less-le (overpayment n shares g) (overpayment n shares (λ j. g j && h j)) (less-over g)
+        (less-over (λ j. g j && h j))
         (omega (
           arith,
-          le-less (overpayment n shares (λ j. g j || h j)) (overpayment n shares g) (less-over (λ j. g j || h j)) (less-over g) most,
+          le-less (overpayment n shares (λ j. g j || h j)) (overpayment n shares g) (less-over (λ j. g j || h j))
+              (less-over g) most,
           le-less (overpayment n shares g) (overpayment n shares h) (less-over g) (less-over h) much,
           sum-meet-join over-at (byNumber n g) (byNumber n h),
           sum-meet-join under-at (byNumber n g) (byNumber n h),

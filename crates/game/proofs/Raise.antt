@@ -37,12 +37,15 @@ module _ (n : Network) (caps : List ℕ) (k : ℕ) (l : List ℕ) where
   rise-other : (level q j : ℕ) → (j ≡ q → ⊥) → rise n caps k l level (suc q) j ≡ rise n caps k l level q j
   rise-other level q j d =
       elim (decLt j q) [
-        | yes h ↦ ap (λ b. pick (users n k j) (smaller (getD caps j 0) (level + pick b 1) - getD l j 0)) (lt-ltb j (suc q) (omega arith) ∙ sym (lt-ltb j q h))
-        | no h ↦ ap (λ b. pick (users n k j) (smaller (getD caps j 0) (level + pick b 1) - getD l j 0)) (le-ltb j (suc q) (omega arith) ∙ sym (le-ltb j q (omega arith)))
+        | yes h ↦ ap (λ b. pick (users n k j) (smaller (getD caps j 0) (level + pick b 1) - getD l j 0))
+            (lt-ltb j (suc q) (omega arith) ∙ sym (lt-ltb j q h))
+        | no h ↦ ap (λ b. pick (users n k j) (smaller (getD caps j 0) (level + pick b 1) - getD l j 0))
+            (le-ltb j (suc q) (omega arith) ∙ sym (le-ltb j q (omega arith)))
       ]
 
   -- what a user takes on the way to its own level, or to its cap
-  rise-user : (level q j : ℕ) → users n k j ≡ true → rise n caps k l level q j ≡ (getD caps j 0 - (getD caps j 0 - (level + pick (ltb j q) 1))) - getD l j 0
+  rise-user : (level q j : ℕ) → users n k j ≡ true
+      → rise n caps k l level q j ≡ (getD caps j 0 - (getD caps j 0 - (level + pick (ltb j q) 1))) - getD l j 0
   rise-user level q j u =
       pick-yes (smaller (getD caps j 0) (level + pick (ltb j q) 1) - getD l j 0) u
       ∙ ap (λ (a : ℕ). a - getD l j 0) (smaller-is (getD caps j 0) (level + pick (ltb j q) 1))
@@ -56,7 +59,8 @@ module _ (n : Network) (caps : List ℕ) (k : ℕ) (l : List ℕ) where
       (both (users n k j))
 
   -- all numbers served at a level are none at the next
-  next-level : (level q j : ℕ) → memberCount n ≤ q → j < memberCount n → rise n caps k l level q j ≡ rise n caps k l (suc level) 0 j
+  next-level : (level q j : ℕ) → memberCount n ≤ q → j < memberCount n
+      → rise n caps k l level q j ≡ rise n caps k l (suc level) 0 j
   next-level level q j all h =
       ap (λ (a : ℕ). pick (users n k j) (smaller (getD caps j 0) a - getD l j 0))
       (omega (arith, pick-yes 1 (lt-ltb j q (omega arith)), pick-no 1 (le-ltb j 0 (omega arith))))
@@ -134,14 +138,17 @@ module _ (n : Network) (caps : List ℕ) (k : ℕ) (l : List ℕ) where
                   omega (
                     arith,
                     pick-yes 1 (eq-eqb q j (sym d)),
-                    subst (λ (j : ℕ). rise n caps k l level (suc q) j ≡ rise n caps k l level q j + 1) (sym d) (rise-served s),
+                    subst (λ (j : ℕ). rise n caps k l level (suc q) j ≡ rise n caps k l level q j + 1) (sym d)
+                        (rise-served s),
                   )
               | no d ↦ omega (arith, pick-no 1 (ne-eqb q j (λ e. d (sym e))), rise-other level q j d)
             ]
 
     -- one number more takes one unit more, or nothing
     pub fill-step : fill n caps k l level (suc q) ≤ fill n caps k l level q + 1
-    fill-step = ⊎-elim (λ (s : Served). omega (arith, fill-served s)) (λ (s : Unserved). omega (arith, fill-not s)) served-or-not
+    fill-step =
+        ⊎-elim (λ (s : Served). omega (arith, fill-served s))
+        (λ (s : Unserved). omega (arith, fill-not s)) served-or-not
 
     -- the rule's next unit goes to q
     module _ (r : List ℕ) (s : Served) (up : Raised level q r) where
@@ -163,7 +170,10 @@ module _ (n : Network) (caps : List ℕ) (k : ℕ) (l : List ℕ) where
 
       chosen : firstLeast (mayTake n caps k r) (λ j. getD r j 0) (memberCount n) ≡ suc q
       chosen =
-          is-first (mayTake n caps k r) (λ j. getD r j 0) q may-q (λ u i m. omega (arith, has-level, at-least u (omega (arith, s .is-member)) m, pick-yes 1 (lt-ltb u q i))) (memberCount n) (s .is-member)
+          is-first (mayTake n caps k r) (λ j. getD r j 0) q may-q
+          (λ u i m. omega
+          (arith, has-level, at-least u (omega (arith, s .is-member)) m, pick-yes 1 (lt-ltb u q i)))
+          (memberCount n) (s .is-member)
           (λ u i m. omega (arith, has-level, at-least u i m))
 
       raised-unit : Raised level (suc q) (unit n caps k r)
@@ -173,27 +183,39 @@ module _ (n : Network) (caps : List ℕ) (k : ℕ) (l : List ℕ) where
             sized = length-set r q (getD r q 0 + 1) ∙ up .sized;
             raised = λ j i.
                 elim (ℕ-discrete j q) [
-                  | yes d ↦ subst (λ (u : ℕ). getD (set r q (getD r q 0 + 1)) u 0 ≡ getD l u 0 + rise n caps k l level (suc q) u) (sym d)
-                      (omega (arith, getD-set-same r q (getD r q 0 + 1) 0 (omega (arith, up .sized, s .is-member)), up .raised q (s .is-member), rise-served s))
-                  | no d ↦ omega (arith, getD-set-other r q j (getD r q 0 + 1) 0 d, up .raised j i, rise-other level q j d)
+                  | yes d ↦ subst
+                      (λ (u : ℕ). getD (set r q (getD r q 0 + 1)) u 0 ≡ getD l u 0 + rise n caps k l level (suc q) u)
+                      (sym d)
+                      (omega (
+                        arith,
+                        getD-set-same r q (getD r q 0 + 1) 0 (omega (arith, up .sized, s .is-member)),
+                        up .raised q (s .is-member),
+                        rise-served s,
+                      ))
+                  | no d ↦ omega
+                      (arith, getD-set-other r q j (getD r q 0 + 1) 0 d, up .raised j i, rise-other level q j d)
                 ];
           })
 
     raised-same : (r : List ℕ) → Unserved → Raised level q r → Raised level (suc q) r
     raised-same r s up = record { sized = up .sized; raised = λ j i. omega (arith, up .raised j i, s .same j i) }
 
-    one-number : Raised level q (units n caps k (fill n caps k l level q) l) → Raised level (suc q) (units n caps k (fill n caps k l level (suc q)) l)
+    one-number : Raised level q (units n caps k (fill n caps k l level q) l)
+        → Raised level (suc q) (units n caps k (fill n caps k l level (suc q)) l)
     unfolding units
     one-number up =
         ⊎-elim
         (λ (s : Served).
-        subst (λ (t : ℕ). Raised level (suc q) (units n caps k t l)) (sym (fill-served s ∙ add-one (fill n caps k l level q)))
+        subst (λ (t : ℕ). Raised level (suc q) (units n caps k t l))
+        (sym (fill-served s ∙ add-one (fill n caps k l level q)))
         (raised-unit (units n caps k (fill n caps k l level q) l) s up))
         (λ (s : Unserved).
-        subst (λ (t : ℕ). Raised level (suc q) (units n caps k t l)) (sym (fill-not s)) (raised-same (units n caps k (fill n caps k l level q) l) s up))
+        subst (λ (t : ℕ). Raised level (suc q) (units n caps k t l)) (sym (fill-not s))
+        (raised-same (units n caps k (fill n caps k l level q) l) s up))
         served-or-not
 
-  up-to : (level q : ℕ) → Raised level 0 (units n caps k (fill n caps k l level 0) l) → Raised level q (units n caps k (fill n caps k l level q) l)
+  up-to : (level q : ℕ) → Raised level 0 (units n caps k (fill n caps k l level 0) l)
+      → Raised level q (units n caps k (fill n caps k l level q) l)
   up-to level zero up = up
   up-to level (suc q) up = one-number level q (up-to level q up)
 
@@ -201,16 +223,22 @@ module _ (n : Network) (caps : List ℕ) (k : ℕ) (l : List ℕ) where
   pub fill-next-level : (level q : ℕ) → memberCount n ≤ q → fill n caps k l level q ≡ fill n caps k l (suc level) 0
   fill-next-level level q all = sum₀-cong (memberCount n) (λ j h. next-level level q j all h)
 
-  to-next : (level q : ℕ) → memberCount n ≤ q → Raised level q (units n caps k (fill n caps k l level q) l) → Raised (suc level) 0 (units n caps k (fill n caps k l (suc level) 0) l)
+  to-next : (level q : ℕ) → memberCount n ≤ q → Raised level q (units n caps k (fill n caps k l level q) l)
+      → Raised (suc level) 0 (units n caps k (fill n caps k l (suc level) 0) l)
   to-next level q all full =
       subst (λ (t : ℕ). Raised (suc level) 0 (units n caps k t l)) (fill-next-level level q all)
-      (record { sized = full .sized; raised = λ j i. full .raised j i ∙ ap (λ (a : ℕ). getD l j 0 + a) (next-level level q j all i) })
+      (record {
+        sized = full .sized;
+        raised = λ j i. full .raised j i ∙ ap (λ (a : ℕ). getD l j 0 + a) (next-level level q j all i);
+      })
 
   -- as many units as a level takes, given out one by one, raise arc k's users to that level
-  pub units-raise : length l ≡ memberCount n → (level q : ℕ) → Raised level q (units n caps k (fill n caps k l level q) l)
+  pub units-raise : length l ≡ memberCount n → (level q : ℕ)
+      → Raised level q (units n caps k (fill n caps k l level q) l)
   unfolding units
   units-raise len zero q =
       up-to 0 q
       (subst (λ (t : ℕ). Raised 0 0 (units n caps k t l)) (sym (sum₀-zero (memberCount n) (λ j h. raised-none j)))
       (record { sized = len; raised = λ j i. omega (arith, raised-none j) }))
-  units-raise len (suc level) q = up-to (suc level) q (to-next level (memberCount n) (omega arith) (units-raise len level (memberCount n)))
+  units-raise len (suc level) q =
+      up-to (suc level) q (to-next level (memberCount n) (omega arith) (units-raise len level (memberCount n)))

@@ -11,7 +11,8 @@ use Rattle.basics.specs.Sum.{pick}
 use Rattle.game.specs.Network.{Network, atOrBelow, user, used, everyone, sumBelow, need, wholeCost}
 use Rattle.game.specs.Group.{byNumber}
 use Rattle.game.specs.Core.{others, bound, onlyTheirs}
-use Rattle.basics.proofs.Bools.{both, clash, and-both, and-first, and-second, or-first, or-second, or-cases, same-test, pick-either}
+use Rattle.basics.proofs.Bools.{both, clash, and-both, and-first, and-second, or-first, or-second, or-cases}
+use Rattle.basics.proofs.Bools.{same-test, pick-either}
 use Rattle.basics.proofs.Sums.{In, sum-cong, sum-add, sum-at}
 use Rattle.game.proofs.Below.{Rooted, child-after, below-trans, below-comparable, below-le, below-self}
 use Rattle.game.proofs.Groups.{used-by, child-below}
@@ -71,7 +72,8 @@ module _ (n : Network) (rooted : Rooted n) (k : ℕ) (run : Run n k) where
           (λ (d : atOrBelow n k e ≡ true). absurd (clash d out))
           (λ (d : atOrBelow n e k ≡ true).
           eq-eqb p e
-          (omega (arith, below-le n rooted p e h, below-le n rooted e p (above-parent n rooted e k (run .lower) d out))))
+          (omega
+          (arith, below-le n rooted p e h, below-le n rooted e p (above-parent n rooted e k (run .lower) d out))))
           (below-comparable n rooted k e (b .by)
           (run .same (b .by) (b .within) (and-both m (below-trans n rooted p e (b .by) h below))) below)
 

@@ -52,7 +52,8 @@ unfolding places groups
 places-among zero g = here
 places-among (suc n) g = first (g 0) (places-among n (λ j. g (suc j)))
   where
-    first : (b : Bool) {l : List Bool} → Among l (groups n) → Among (b ∷ l) (map (λ g. false ∷ g) (groups n) ++ map (λ g. true ∷ g) (groups n))
+    first : (b : Bool) {l : List Bool} → Among l (groups n)
+        → Among (b ∷ l) (map (λ g. false ∷ g) (groups n) ++ map (λ g. true ∷ g) (groups n))
     first false a = among-left (map (λ g. true ∷ g) (groups n)) (among-map (λ g. false ∷ g) a)
     first true a = among-right (map (λ g. false ∷ g) (groups n)) (among-map (λ g. true ∷ g) a)
 
@@ -61,7 +62,8 @@ data All {A : Type 0} (P : A → Type 0) : List A → Type 0 where
   none : All P []
   more : {x : A} {l : List A} → P x → All P l → All P (x ∷ l)
 
-all-map : {A B : Type 0} {P : A → Type 0} {Q : B → Type 0} (f : A → B) → ((x : A) → P x → Q (f x)) → {l : List A} → All P l → All Q (map f l)
+all-map : {A B : Type 0} {P : A → Type 0} {Q : B → Type 0} (f : A → B) → ((x : A) → P x → Q (f x)) → {l : List A}
+    → All P l → All Q (map f l)
 all-map f h none = none
 all-map f h (more {x} p a) = more (h x p) (all-map f h a)
 
@@ -76,7 +78,8 @@ groups-end : (n : ℕ) → All (Ends n) (groups n)
 unfolding groups
 groups-end zero = more (λ j h. refl) none
 groups-end (suc n) =
-    all-append (all-map (λ g. false ∷ g) (longer false) (groups-end n)) (all-map (λ g. true ∷ g) (longer true) (groups-end n))
+    all-append (all-map (λ g. false ∷ g) (longer false) (groups-end n))
+    (all-map (λ g. true ∷ g) (longer true) (groups-end n))
   where
     longer : (b : Bool) (g : List Bool) → Ends n g → Ends (suc n) (b ∷ g)
     longer b g e zero h = absurd (omega arith)
@@ -111,18 +114,25 @@ module _ (n : Network) (shares : List ℤ) where
       let f = ltZ-true (over (isIn h)) (over (isIn g)) l in record { most = f .0; fewest = λ k. absurd (f .1 k) })
       (λ (l : (leZ (over (isIn h)) (over (isIn g)) && ltb (members-of (isIn g)) (members-of (isIn h))) ≡ true).
       record {
-        most = leZ-true (over (isIn h)) (over (isIn g)) (and-first (leZ (over (isIn h)) (over (isIn g))) (ltb (members-of (isIn g)) (members-of (isIn h))) l);
+        most =
+            leZ-true (over (isIn h)) (over (isIn g))
+            (and-first (leZ (over (isIn h)) (over (isIn g))) (ltb (members-of (isIn g)) (members-of (isIn h))) l);
         fewest = λ k.
             le-of-lt
-            (ltb-true (members-of (isIn g)) (members-of (isIn h)) (and-second (leZ (over (isIn h)) (over (isIn g))) (ltb (members-of (isIn g)) (members-of (isIn h))) l));
+            (ltb-true (members-of (isIn g)) (members-of (isIn h))
+            (and-second (leZ (over (isIn h)) (over (isIn g)))
+            (ltb (members-of (isIn g)) (members-of (isIn h))) l));
       })
-      (or-cases (ltZ (over (isIn h)) (over (isIn g))) (leZ (over (isIn h)) (over (isIn g)) && ltb (members-of (isIn g)) (members-of (isIn h))) e)
+      (or-cases (ltZ (over (isIn h)) (over (isIn g)))
+      (leZ (over (isIn h)) (over (isIn g)) && ltb (members-of (isIn g)) (members-of (isIn h))) e)
 
   worse-good : (g h : List Bool) → better n shares g h ≡ false → AsGood (isIn h) (isIn g)
   worse-good g h e =
       record {
         most = ltZ-false (over (isIn h)) (over (isIn g)) (neither-first more as-much e);
-        fewest = λ k. ltb-false (members-of (isIn g)) (members-of (isIn h)) (fewer (true-leZ k) (neither-second more as-much e));
+        fewest =
+            λ k. ltb-false (members-of (isIn g)) (members-of (isIn h))
+            (fewer (true-leZ k) (neither-second more as-much e));
       }
     where
       more : Bool
@@ -135,7 +145,9 @@ module _ (n : Network) (shares : List ℤ) where
       fewer {b} t f = rw t at f
 
   -- the better of two is as good as both
-  one-of-two : (x g : List Bool) → AsGood (isIn (cond (better n shares x g) x g)) (isIn x) × AsGood (isIn (cond (better n shares x g) x g)) (isIn g)
+  one-of-two : (x g : List Bool)
+      → AsGood (isIn (cond (better n shares x g) x g)) (isIn x)
+      × AsGood (isIn (cond (better n shares x g) x g)) (isIn g)
   one-of-two x g =
       ⊎-elim
       (λ (e : better n shares x g ≡ true). rw e (as-good-self (isIn x), better-good x g e))
@@ -148,7 +160,8 @@ module _ (n : Network) (shares : List ℤ) where
   best-start g [] = as-good-self (isIn g)
   best-start g (x ∷ l) = as-good-trans (best-start (cond (better n shares x g) x g) l) (one-of-two x g .1)
 
-  best-among : (g : List Bool) {h : List Bool} {l : List (List Bool)} → Among h l → AsGood (isIn (best n shares g l)) (isIn h)
+  best-among : (g : List Bool) {h : List Bool} {l : List (List Bool)} → Among h l
+      → AsGood (isIn (best n shares g l)) (isIn h)
   unfolding best
   best-among g {h} (here {l}) = as-good-trans (best-start (cond (better n shares h g) h g) l) (one-of-two h g .0)
   best-among g (there {y} a) = best-among (cond (better n shares y g) y g) a
@@ -167,11 +180,14 @@ module _ (n : Network) (shares : List ℤ) where
   named-good g = as-good-same (places-is (memberCount n) g) (best-among [] (places-among (memberCount n) g))
 
   -- a group that overpays as much as the named one has all its members
-  pub named-part : (g : ℕ → Bool) → over (isIn (named n shares)) ≤ℤ over g → (j : ℕ) → j < memberCount n → isIn (named n shares) j ≡ true → g j ≡ true
+  pub named-part : (g : ℕ → Bool) → over (isIn (named n shares)) ≤ℤ over g → (j : ℕ) → j < memberCount n
+      → isIn (named n shares) j ≡ true → g j ≡ true
   named-part g much j h e =
       and-second (isIn (named n shares) j) (g j)
       (size-full (memberCount n) shared (isIn (named n shares)) (λ i l c. and-first (isIn (named n shares) i) (g i) c)
-      (named-good shared .fewest (meet-overpays n shares (isIn (named n shares)) g (named-good (λ i. isIn (named n shares) i || g i) .most) much))
+      (named-good shared .fewest
+      (meet-overpays n shares (isIn (named n shares)) g
+      (named-good (λ i. isIn (named n shares) i || g i) .most) much))
       j h e)
     where
       shared : ℕ → Bool
@@ -182,7 +198,8 @@ module _ (n : Network) (shares : List ℤ) where
   best-ends m g e none = e
   best-ends m g e (more {x} p a) =
       best-ends m (cond (better n shares x g) x g)
-      (⊎-elim (λ (t : better n shares x g ≡ true). rw t p) (λ (t : better n shares x g ≡ false). rw t e) (both (better n shares x g))) a
+      (⊎-elim (λ (t : better n shares x g ≡ true). rw t p) (λ (t : better n shares x g ≡ false). rw t e)
+      (both (better n shares x g))) a
 
   -- the named group has no number beyond the members
   pub named-ends : (j : ℕ) → memberCount n ≤ j → isIn (named n shares) j ≡ false

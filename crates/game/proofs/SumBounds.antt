@@ -14,7 +14,8 @@ unfolding sumBelow
 sum-below-le n x k = sum-mono (n .arcs) (λ v i. pick-le (atOrBelow n k v) (x v))
 
 -- the sums of a vertex's children are part of the whole
-pub children-le : (n : Network) → Rooted n → (x : ℕ → ℕ) (v : ℕ) → v ≤ n .arcs → sum (n .arcs) (λ u. pick (eqb (n .parent u) v) (sumBelow n x u)) ≤ sum (n .arcs) x
+pub children-le : (n : Network) → Rooted n → (x : ℕ → ℕ) (v : ℕ) → v ≤ n .arcs
+    → sum (n .arcs) (λ u. pick (eqb (n .parent u) v) (sumBelow n x u)) ≤ sum (n .arcs) x
 children-le n rooted x v h =
     elim (ℕ-discrete v 0) [
       | yes e ↦ rw e (omega (arith, sum-from-source n rooted x))

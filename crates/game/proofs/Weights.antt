@@ -16,7 +16,8 @@ use Rattle.game.proofs.GroupSums.{over-first, over-cong, over-zero}
 
 -- the weight of a group with none of a, where p numbers more are in it and q numbers more are not; 0 of any other group
 avoiding : ℕ → (ℕ → Bool) → ℕ → ℕ → List Bool → ℕ
-avoiding n a p q g = pick (not (meets n (isIn g) a)) (factorial (size n (isIn g) + p) * factorial (n + q - size n (isIn g) - 1))
+avoiding n a p q g =
+    pick (not (meets n (isIn g) a)) (factorial (size n (isIn g) + p) * factorial (n + q - size n (isIn g) - 1))
 
 -- over all groups
 total : ℕ → (ℕ → Bool) → ℕ → ℕ → ℕ
@@ -38,13 +39,16 @@ module _ (n : ℕ) (a : ℕ → Bool) (p q : ℕ) where
   unfolding avoiding
   first-in e g =
       let s = size-first n (isIn (true ∷ g)) in
-      ap₂ (λ (b : Bool) (x : ℕ). pick (not b) x) (meets-first n (isIn (true ∷ g)) a ∙ ap (λ (b : Bool). b || meets n (isIn g) later) e)
+      ap₂ (λ (b : Bool) (x : ℕ). pick (not b) x)
+      (meets-first n (isIn (true ∷ g)) a ∙ ap (λ (b : Bool). b || meets n (isIn g) later) e)
       (ap₂ (λ (x y : ℕ). factorial x * factorial y) (omega arith) (omega arith))
 
   first-held : a 0 ≡ true → (g : List Bool) → avoiding (suc n) a p q (true ∷ g) ≡ 0
   unfolding avoiding
   first-held e g =
-      pick-no (factorial (size (suc n) (isIn (true ∷ g)) + p) * factorial (suc n + q - size (suc n) (isIn (true ∷ g)) - 1))
+      pick-no
+      (factorial (size (suc n) (isIn (true ∷ g)) + p) * factorial
+      (suc n + q - size (suc n) (isIn (true ∷ g)) - 1))
       (ap not (meets-first n (isIn (true ∷ g)) a ∙ ap (λ (b : Bool). b || meets n (isIn g) later) e))
 
   total-free : a 0 ≡ false → total (suc n) a p q ≡ total n later p (suc q) + total n later (suc p) q
@@ -57,7 +61,8 @@ module _ (n : ℕ) (a : ℕ → Bool) (p q : ℕ) where
   unfolding total
   total-held e =
       over-first (avoiding (suc n) a p q) n
-      ∙ ap₂ (λ (x y : ℕ). x + y) (over-cong (groups n) first-out) (over-cong (groups n) (first-held e) ∙ over-zero (groups n))
+      ∙ ap₂ (λ (x y : ℕ). x + y) (over-cong (groups n) first-out)
+      (over-cong (groups n) (first-held e) ∙ over-zero (groups n))
       ∙ add-zero (overAll (avoiding n later p (suc q)) (groups n))
 
 pub factorial-pos : (n : ℕ) → 0 < factorial n
@@ -66,7 +71,8 @@ factorial-pos zero = omega arith
 factorial-pos (suc n) = mul-pos (zero-lt-suc n) (factorial-pos n)
 
 -- x and y are the sums over the groups without and with a first number, which is not in a
-two-sums : (p m f x y fp fm r : ℕ) → suc (suc (p + m)) * f * x ≡ fp * (suc m * fm) * r → suc (suc (p + m)) * f * y ≡ suc p * fp * fm * r
+two-sums : (p m f x y fp fm r : ℕ) → suc (suc (p + m)) * f * x ≡ fp * (suc m * fm) * r
+    → suc (suc (p + m)) * f * y ≡ suc p * fp * fm * r
     → f * (x + y) ≡ fp * fm * r
 two-sums p m f x y fp fm r hx hy =
     eq-of-mul-eq-mul-left (suc (suc (p + m))) (zero-lt-suc (suc (p + m))) (f * (x + y)) (fp * fm * r) (omega arith)
@@ -74,14 +80,16 @@ two-sums p m f x y fp fm r hx hy =
 total-none : (a : ℕ → Bool) (p m : ℕ) → total 0 a p (suc m) ≡ factorial p * factorial m
 unfolding size total avoiding meets groups overAll
 total-none a p m =
-    add-zero (factorial (0 + p) * factorial (0 + suc m - 0 - 1)) ∙ ap₂ (λ (x y : ℕ). factorial x * factorial y) (omega arith) (omega arith)
+    add-zero (factorial (0 + p) * factorial (0 + suc m - 0 - 1))
+    ∙ ap₂ (λ (x y : ℕ). factorial x * factorial y) (omega arith) (omega arith)
 
 -- suc m is the number of the numbers in a and of the q more
 total-is : (n : ℕ) (a : ℕ → Bool) (p q m : ℕ) → size n a + q ≡ suc m
     → factorial (suc (p + m)) * total n a p q ≡ factorial p * factorial m * factorial (n + p + q)
 unfolding factorial
 total-is zero a p q m h =
-    let e : q ≡ suc m = omega (arith, size-none 0 a (λ i l. absurd (omega arith))) in rw (e, total-none, zero-add, add-suc) (omega arith)
+    let e : q ≡ suc m = omega (arith, size-none 0 a (λ i l. absurd (omega arith))) in
+    rw (e, total-none, zero-add, add-suc) (omega arith)
 total-is (suc n) a p q m h =
     let out : n + p + suc q ≡ suc n + p + q = omega arith in
     let within : n + suc p + q ≡ suc n + p + q = omega arith in
@@ -92,7 +100,8 @@ total-is (suc n) a p q m h =
     ∙ ap (λ (k : ℕ). factorial p * factorial m * factorial k) out)
     (λ (e : a 0 ≡ false).
     ap (λ (t : ℕ). factorial (suc (p + m)) * t) (total-free n a p q e)
-    ∙ two-sums p m (factorial (suc (p + m))) (total n later p (suc q)) (total n later (suc p) q) (factorial p) (factorial m) (factorial (suc n + p + q))
+    ∙ two-sums p m (factorial (suc (p + m))) (total n later p (suc q)) (total n later (suc p) q) (factorial p)
+    (factorial m) (factorial (suc n + p + q))
     (ap (λ (k : ℕ). factorial (suc k) * total n later p (suc q)) (sym (add-suc p m))
     ∙ total-is n later p (suc q) (suc m) (omega (arith, size-first n a, pick-no 1 e))
     ∙ ap (λ (k : ℕ). factorial p * factorial (suc m) * factorial k) out)
@@ -123,4 +132,5 @@ weights-sum n a h = whole (pred (size n a)) (omega arith)
     whole : (m : ℕ) → size n a ≡ suc m → size n a * weights-avoiding n a ≡ factorial n
     whole m e =
         let t = rw (zero-add, add-zero, add-zero, not-moved) at (total-is n a 0 0 m (omega arith)) in
-        eq-of-mul-eq-mul-left (factorial m) (factorial-pos m) (size n a * weights-avoiding n a) (factorial n) (rw e (omega arith))
+        eq-of-mul-eq-mul-left (factorial m) (factorial-pos m) (size n a * weights-avoiding n a) (factorial n)
+        (rw e (omega arith))

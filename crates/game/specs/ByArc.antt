@@ -11,9 +11,11 @@ use Rattle.game.specs.Core.{users}
 abbrev pub userCount : Network → ℕ → ℕ
 userCount n k = size (memberCount n) (users n k)
 
--- what arc k gives member j: each user the cost div the number of users, and one unit more to the (cost mod that number) lowest-numbered users
+-- what arc k gives member j: each user the cost div the number of users, and one unit more to the (cost mod that
+-- number) lowest-numbered users
 abbrev pub gift : Network → ℕ → ℕ → ℕ
-gift n k j = pick (users n k j) (n .cost k / userCount n k + pick (ltb (size j (users n k)) (n .cost k % userCount n k)) 1)
+gift n k j =
+    pick (users n k j) (n .cost k / userCount n k + pick (ltb (size j (users n k)) (n .cost k % userCount n k)) 1)
 
 -- the shares with arc k's gifts added
 unfoldable pub giveArc : Network → ℕ → List ℕ → List ℕ

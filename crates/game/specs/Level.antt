@@ -1,4 +1,5 @@
--- The level rule: each arc's amount is given out unit by unit to the user with the smallest share among those below their cap.
+-- The level rule: each arc's amount is given out unit by unit to the user with the smallest share among those below
+-- their cap.
 -- Shares and caps are lists in member order.
 use Prim.Native.Nat.{ℕ, zero, suc, _+_}
 use mathlib.Core.Bool.{Bool, cond, _&&_}

@@ -1,4 +1,5 @@
--- The tree cost game of METR 2003-14 on a network: who uses an arc, what a group costs, what an arc's users need to pay.
+-- The tree cost game of METR 2003-14 on a network: who uses an arc, what a group costs, what an arc's users need to
+-- pay.
 use Prim.Native.Nat.{ℕ, zero, suc, pred}
 use mathlib.Core.Bool.{Bool, true, false, _&&_, _||_}
 use mathlib.Core.List.{List, [], _∷_, _++_}
@@ -62,7 +63,8 @@ number n v = count (pred v) (n .member)
 -- the vertices up to v that are members, in rising order
 unfoldable pub membersTo : (ℕ → Bool) → ℕ → List ℕ
 membersTo member zero = []
-membersTo member (suc v) = elim (member (suc v)) [ true ↦ membersTo member v ++ (suc v ∷ []) | false ↦ membersTo member v ]
+membersTo member (suc v) =
+    elim (member (suc v)) [ true ↦ membersTo member v ++ (suc v ∷ []) | false ↦ membersTo member v ]
 
 -- the members' vertices, entry j for member j
 abbrev pub members : Network → List ℕ

@@ -23,7 +23,8 @@ isIn g j = getD g j false
 abbrev pub better : Network → List ℤ → List Bool → List Bool → Bool
 better n shares g h =
     ltZ (overpayment n shares (isIn h)) (overpayment n shares (isIn g))
-    || (leZ (overpayment n shares (isIn h)) (overpayment n shares (isIn g)) && ltb (size (memberCount n) (isIn g)) (size (memberCount n) (isIn h)))
+    || (leZ (overpayment n shares (isIn h)) (overpayment n shares (isIn g))
+    && ltb (size (memberCount n) (isIn g)) (size (memberCount n) (isIn h)))
 
 -- the best of a group and those in a list
 unfoldable pub best : Network → List ℤ → List Bool → List (List Bool) → List Bool

@@ -1,4 +1,5 @@
--- The Shapley value, times n! so that it is whole, by its definition over all groups; and what a division of each arc's cost keeps to.
+-- The Shapley value, times n! so that it is whole, by its definition over all groups; and what a division of each
+-- arc's cost keeps to.
 use Prim.Native.Nat.{ℕ, zero, suc, _+_, _*_, _-_, _/_, _≤_, _<_}
 use mathlib.Core.Path.{_≡_}
 use mathlib.Core.Bool.{Bool, true, false, not, _||_}
@@ -31,14 +32,16 @@ weight n g = factorial (size n g) * factorial (n - size n g - 1)
 
 -- n! times member i's Shapley value: over all groups without i, the weight times what i adds
 unfoldable pub shapley : Network → ℕ → ℕ
-shapley n i = overAll (λ g. pick (not (isIn g i)) (weight (memberCount n) (isIn g) * adds n i (isIn g))) (groups (memberCount n))
+shapley n i =
+    overAll (λ g. pick (not (isIn g i)) (weight (memberCount n) (isIn g) * adds n i (isIn g)))
+    (groups (memberCount n))
 
 -- the number of arcs on the path from the source to member j
 abbrev pub pathLength : Network → ℕ → ℕ
 pathLength n j = count (n .arcs) (λ k. users n k j)
 
--- arc k's gifts g: nobody but its users gets anything, each user gets the cost div their number or one unit more, and together they get
--- the cost
+-- arc k's gifts g: nobody but its users gets anything, each user gets the cost div their number or one unit more, and
+-- together they get the cost
 pub record Even (n : Network) (k : ℕ) (g : ℕ → ℕ) : Type 0 where
   pub others : (j : ℕ) → users n k j ≡ false → g j ≡ 0
   pub least : (j : ℕ) → users n k j ≡ true → n .cost k / userCount n k ≤ g j

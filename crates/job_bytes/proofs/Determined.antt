@@ -23,7 +23,8 @@ same-entries n f g d e i h = sym (entries-at f d n i h) ∙ rw e (entries-at g d
 number-small : (bytes : List ℕ) → Bytes bytes → (width at : ℕ) → littleEndian bytes at width < 256 ^ width
 unfolding littleEndian
 number-small bytes b zero at = omega arith
-number-small bytes b (suc width) at = rw (pow-succ' 256 width) (omega (arith, b at, number-small bytes b width (at + 1)))
+number-small bytes b (suc width) at =
+    rw (pow-succ' 256 width) (omega (arith, b at, number-small bytes b width (at + 1)))
 
 signed-same : (x y : ℕ) → x < 2 ^ 64 → y < 2 ^ 64 → signed64 x ≡ signed64 y → x ≡ y
 signed-same x y hx hy e =
@@ -35,7 +36,8 @@ signed-same x y hx hy e =
       | no l ↦ elim (decLt y (2 ^ 63)) [
         | yes m ↦ absurd (opposite (sym (lower y m) ∙ sym e ∙ upper x (omega arith)))
         | no m ↦
-            let same : negsuc (2 ^ 64 - 1 - x) ≡ negsuc (2 ^ 64 - 1 - y) = sym (upper x (omega arith)) ∙ e ∙ upper y (omega arith) in
+            let same : negsuc (2 ^ 64 - 1 - x) ≡ negsuc (2 ^ 64 - 1 - y) = sym (upper x (omega arith)) ∙ e
+            ∙ upper y (omega arith) in
             let rest : 2 ^ 64 - 1 - x ≡ 2 ^ 64 - 1 - y = cc in
             omega arith
       ]
@@ -53,7 +55,8 @@ module _ (a b : List ℕ) (as-bytes : Bytes a) (bs-bytes : Bytes b) (long : leng
   same-byte n h e s = rw (add-one n, take-suc a n 0 h, take-suc b n 0 (omega arith), s, e)
 
   -- one law for all widths: the bytes from n up to m
-  pub same-number : (width n m : ℕ) → n + width ≡ m → m ≤ length a → littleEndian a n width ≡ littleEndian b n width → Same n → Same m
+  pub same-number : (width n m : ℕ) → n + width ≡ m → m ≤ length a → littleEndian a n width ≡ littleEndian b n width
+      → Same n → Same m
   unfolding littleEndian
   same-number zero n m up h e s = let end : n ≡ m = omega arith in rw end at s
   same-number (suc width) n m up h e s =
@@ -69,7 +72,8 @@ module _ (a b : List ℕ) (as-bytes : Bytes a) (bs-bytes : Bytes b) (long : leng
   same-arcs offset zero h p f c s = rw (add-zero offset) s
   same-arcs offset (suc m) h p f c s =
       let at = offset + 8 * m in
-      let before = same-arcs offset m (omega arith) (λ i l. p i (omega arith)) (λ i l. f i (omega arith)) (λ i l. c i (omega arith)) s in
+      let before = same-arcs offset m (omega arith) (λ i l. p i (omega arith)) (λ i l. f i (omega arith))
+      (λ i l. c i (omega arith)) s in
       let parent = same-number 2 at (at + 2) (omega arith) (omega arith) (p m (omega arith)) before in
       let filler = same-number 2 (at + 2) (at + 4) (omega arith) (omega arith) (f m (omega arith)) parent in
       same-number 4 (at + 4) (offset + 8 * suc m) (omega arith) h (c m (omega arith)) filler

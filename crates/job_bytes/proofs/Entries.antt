@@ -11,7 +11,8 @@ use Rattle.basics.proofs.Lists.{entries-length}
 
 module _ {A : Type 0} where
   -- one entry more
-  entries-on : (i : ℕ) (f : ℕ → A) (l : List A) (v : A) → i < length l → v ≡ f i → set (entries i f ++ drop i l) i v ≡ entries (i + 1) f ++ drop (i + 1) l
+  entries-on : (i : ℕ) (f : ℕ → A) (l : List A) (v : A) → i < length l → v ≡ f i
+      → set (entries i f ++ drop i l) i v ≡ entries (i + 1) f ++ drop (i + 1) l
   unfolding entries
   entries-on i f l v h e =
       rw (add-one i, drop-cons l i v h, set-at (entries i f) (getD l i v) (drop (suc i) l) v i (entries-length f i), e)

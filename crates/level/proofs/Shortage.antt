@@ -23,7 +23,8 @@ module _ (members : ℕ) (needs sums : List ℕ) where
   none-left e = rw e
 
   -- at an arc, where r is what was found there
-  module _ (k j : ℕ) (r : CapsFound) (next : k ≡ suc j) (is : answerOf members r ≡ shortAt members k (getD needs j 0) (getD sums j 0)) where
+  module _ (k j : ℕ) (r : CapsFound) (next : k ≡ suc j)
+      (is : answerOf members r ≡ shortAt members k (getD needs j 0) (getD sums j 0)) where
     here : shortFrom members needs sums k ≡ (answerOf members r orElse shortFrom members needs sums j)
     unfolding shortFrom
     here = rw (is, next)
@@ -36,26 +37,33 @@ module _ (members : ℕ) (needs sums : List ℕ) where
 
 -- over the needs and cap sums of a network
 module _ (n : Network) (caps : List ℕ) (m : ℕ) where
-  short-arcs : (k : ℕ) → k ≤ m → shortFrom (memberCount n) (list m (need n)) (list m (capSum n caps)) k ≡ splitOr9 n caps (shortArc n caps k)
+  short-arcs : (k : ℕ) → k ≤ m
+      → shortFrom (memberCount n) (list m (need n)) (list m (capSum n caps)) k ≡ splitOr9 n caps (shortArc n caps k)
   unfolding shortFrom shortArc
   short-arcs zero h = refl
   short-arcs (suc k) h =
       ⊎-elim
-      (λ (e : ltb (capSum n caps (suc k)) (need n (suc k)) ≡ true). rw (list-at (need n) 0 m k (omega arith), list-at (capSum n caps) 0 m k (omega arith), e))
-      (λ (e : ltb (capSum n caps (suc k)) (need n (suc k)) ≡ false). rw (list-at (need n) 0 m k (omega arith), list-at (capSum n caps) 0 m k (omega arith), e) (short-arcs k (omega arith)))
+      (λ (e : ltb (capSum n caps (suc k)) (need n (suc k)) ≡ true). rw
+      (list-at (need n) 0 m k (omega arith), list-at (capSum n caps) 0 m k (omega arith), e))
+      (λ (e : ltb (capSum n caps (suc k)) (need n (suc k)) ≡ false). rw
+      (list-at (need n) 0 m k (omega arith), list-at (capSum n caps) 0 m k (omega arith), e)
+      (short-arcs k (omega arith)))
       (both (ltb (capSum n caps (suc k)) (need n (suc k))))
 
 -- costs do not decide what the caps add up to
-cap-sums-costs : (parents costs caps : List ℕ) (m : ℕ) → list m (capSum (networkOf parents []) caps) ≡ list m (capSum (networkOf parents costs) caps)
+cap-sums-costs : (parents costs caps : List ℕ) (m : ℕ)
+    → list m (capSum (networkOf parents []) caps) ≡ list m (capSum (networkOf parents costs) caps)
 unfolding sumBelow
 cap-sums-costs parents costs caps m = refl
 
 -- the lists that the passes wrote
-pub short-answer : (parents costs caps needs sums : List ℕ) → length needs ≡ length parents → needs ≡ list (length parents) (need (networkOf parents costs))
+pub short-answer : (parents costs caps needs sums : List ℕ) → length needs ≡ length parents
+    → needs ≡ list (length parents) (need (networkOf parents costs))
     → sums ≡ list (length parents) (capSum (networkOf parents []) caps)
     → shortFrom (memberCount (networkOf parents costs)) needs sums (length needs)
     ≡ splitOr9 (networkOf parents costs) caps (shortArc (networkOf parents costs) caps (length parents))
 short-answer parents costs caps needs sums l n s =
     ap (shortFrom (memberCount (networkOf parents costs)) needs sums) l
-    ∙ ap₂ (λ (a b : List ℕ). shortFrom (memberCount (networkOf parents costs)) a b (length parents)) n (s ∙ cap-sums-costs parents costs caps (length parents))
+    ∙ ap₂ (λ (a b : List ℕ). shortFrom (memberCount (networkOf parents costs)) a b (length parents)) n
+    (s ∙ cap-sums-costs parents costs caps (length parents))
     ∙ short-arcs (networkOf parents costs) caps (length parents) (length parents) (omega arith)

@@ -26,4 +26,5 @@ refusal number place shortfall orElse next = refusal number place shortfall
 -- the arcs from k down, by the lists of needs and cap sums
 unfoldable pub shortFrom : ℕ → List ℕ → List ℕ → ℕ → LevelAnswer
 shortFrom members needs sums zero = split members
-shortFrom members needs sums (suc k) = shortAt members (suc k) (getD needs k 0) (getD sums k 0) orElse shortFrom members needs sums k
+shortFrom members needs sums (suc k) =
+    shortAt members (suc k) (getD needs k 0) (getD sums k 0) orElse shortFrom members needs sums k

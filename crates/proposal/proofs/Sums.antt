@@ -17,7 +17,8 @@ use Rattle.limits.specs.Limits.{mostShare, mostArcs}
 use Rattle.limits.specs.Inner.{mostTotal}
 use Rattle.checks.proofs.Range.{list-accepted}
 
-pub share-most : (members : ℕ) (l : List ℤ) → proposalCheck members l ≡ accepted → (j : ℕ) → natAbs (share l j) ≤ mostShare
+pub share-most : (members : ℕ) (l : List ℤ) → proposalCheck members l ≡ accepted → (j : ℕ)
+    → natAbs (share l j) ≤ mostShare
 share-most members l e j =
     ltb-false mostShare (natAbs (share l j)) (list-accepted outsideShare (pos 0) members l refl e .inside j)
 
@@ -38,7 +39,8 @@ module _ (part : ℤ → ℕ) (l : List ℤ) where
   pub sum-next : (n : ℕ) {s x : ℕ} → s ≡ partSum part l n → x ≡ part (share l n) → s + x ≡ partSum part l (n + 1)
   sum-next n e d = rw add-one (omega arith)
 
-  pub sum-most : (members : ℕ) → ((z : ℤ) → part z ≤ natAbs z) → proposalCheck members l ≡ accepted → (n : ℕ) → n ≤ mostArcs
+  pub sum-most : (members : ℕ) → ((z : ℤ) → part z ≤ natAbs z) → proposalCheck members l ≡ accepted → (n : ℕ)
+      → n ≤ mostArcs
       → partSum part l n ≤ mostTotal
   sum-most members size checked n h =
       omega (

@@ -27,7 +27,8 @@ pub record Proposed (t : Tree) (shares : List ℤ) : Type 0 where
 
 module _ (t : Tree) (shares : List ℤ) (ok : Proposed t shares) where
   pub tree-ok : Accepted t
-  tree-ok = tree-accepted t (first-accepted (treeCheck t) (proposalCheck (memberCount (network t)) shares) (ok .accepts))
+  tree-ok =
+      tree-accepted t (first-accepted (treeCheck t) (proposalCheck (memberCount (network t)) shares) (ok .accepts))
 
   proposal-ok : proposalCheck (memberCount (network t)) shares ≡ accepted
   proposal-ok = second-accepted (treeCheck t) (proposalCheck (memberCount (network t)) shares) (ok .accepts)
@@ -37,7 +38,8 @@ module _ (t : Tree) (shares : List ℤ) (ok : Proposed t shares) where
       omega (
         arith,
         members-sum (length (t .parents)) (network t .member) (λ j. plus (share shares j)),
-        sum-most plus shares (memberCount (network t)) plus-size proposal-ok (memberCount (network t)) (members-bound t tree-ok),
+        sum-most plus shares (memberCount (network t)) plus-size proposal-ok (memberCount (network t))
+            (members-bound t tree-ok),
       )
 
   pub proposal-length : length shares ≡ memberCount (network t)

@@ -44,11 +44,14 @@ module _ (t : Tree) (shares : List ℤ) where
     pub found : (v : ℕ) → k < v → v ≤ length (t .parents) → getD excesses v 0 ≡ excess v
 
 module _ (t : Tree) (shares : List ℤ) (ok : Proposed t shares) where
-  pub passing-start : {j k : ℕ} → k ≡ length (t .parents) → j ≡ memberCount (network t) → Passing t shares (replicate 1024 false) (replicate 1024 0) (replicate 1024 0) j k
+  pub passing-start : {j k : ℕ} → k ≡ length (t .parents) → j ≡ memberCount (network t)
+      → Passing t shares (replicate 1024 false) (replicate 1024 0) (replicate 1024 0) j k
   passing-start {j} {k} e l =
       record {
         members = left-start (t .parents) e l;
-        carried = subst (λ (i : ℕ). Carried amounts (t .parents) (excess t shares) i (replicate 1024 0)) (sym e) (carried-start amounts (t .parents) (excess t shares));
+        carried =
+            subst (λ (i : ℕ). Carried amounts (t .parents) (excess t shares) i (replicate 1024 0)) (sym e)
+            (carried-start amounts (t .parents) (excess t shares));
         places = length-replicate {A = ℕ} 1024 0;
         found = λ v lo hi. absurd (omega arith);
       }
@@ -56,7 +59,9 @@ module _ (t : Tree) (shares : List ℤ) (ok : Proposed t shares) where
   rooted : Rooted (network t)
   rooted = tree-ok t shares ok .rooted
 
-  module _ (k i : ℕ) (within : k ≤ length (t .parents)) (next : k ≡ suc i) {has : List Bool} {below excesses : List ℕ} {j : ℕ} (s : Passing t shares has below excesses j k) where
+  module _ (k i : ℕ) (within : k ≤ length (t .parents))
+      (next : k ≡ suc i) {has : List Bool} {below excesses : List ℕ} {j : ℕ}
+      (s : Passing t shares has below excesses j k) where
     here : Carried amounts (t .parents) (excess t shares) (suc i) below
     here = subst (λ (u : ℕ). Carried amounts (t .parents) (excess t shares) u below) next (s .carried)
 
@@ -70,7 +75,8 @@ module _ (t : Tree) (shares : List ℤ) (ok : Proposed t shares) where
     passing-room = left-room (t .parents) ok-list k i within next (s .members)
 
     -- the place of a member that is met
-    pub passing-place : (w : ℕ) → w ≡ pick (not (getD has k false)) 1 → getD has k false ≡ false → j - w < memberCount (network t)
+    pub passing-place : (w : ℕ) → w ≡ pick (not (getD has k false)) 1 → getD has k false ≡ false
+        → j - w < memberCount (network t)
     passing-place w e f =
         omega (
           arith,
@@ -79,11 +85,13 @@ module _ (t : Tree) (shares : List ℤ) (ok : Proposed t shares) where
         )
 
     -- the weight of the arc's vertex, and what its children exceed by
-    module _ (w x : ℕ) (ew : w ≡ pick (not (getD has k false)) 1) (ex : x ≡ pick (not (getD has k false)) (plus (share shares (j - w)))) where
+    module _ (w x : ℕ) (ew : w ≡ pick (not (getD has k false)) 1)
+        (ex : x ≡ pick (not (getD has k false)) (plus (share shares (j - w)))) where
       amount : x + getD below k 0 ≡ weight t shares k + children (network t) (excess t shares) k
       amount =
           ap₂ (λ (a b : ℕ). a + b)
-          (ex ∙ ap₂ (λ (b : Bool) (u : ℕ). pick (not b) (plus (share shares u))) known (left-number (t .parents) ok-list k i within next (s .members) w ew))
+          (ex ∙ ap₂ (λ (b : Bool) (u : ℕ). pick (not b) (plus (share shares u))) known
+          (left-number (t .parents) ok-list k i within next (s .members) w ew))
           (ap (λ (u : ℕ). getD below u 0) next
           ∙ carried-at amounts (t .parents) (excess t shares) ok-list i (omega arith) below here
           ∙ ap (children (network t) (excess t shares)) (sym next))
@@ -94,7 +102,8 @@ module _ (t : Tree) (shares : List ℤ) (ok : Proposed t shares) where
             arith,
             amount,
             term-le (length (t .parents)) k (weight t shares) (omega arith),
-            excess-le (network t) rooted (weight t shares) (excess t shares) (excess-of (network t) rooted (weight t shares)) k within,
+            excess-le (network t) rooted (weight t shares) (excess t shares)
+                (excess-of (network t) rooted (weight t shares)) k within,
             weights-bound t shares ok,
           )
 
@@ -111,20 +120,27 @@ module _ (t : Tree) (shares : List ℤ) (ok : Proposed t shares) where
           here .lacks (getD (t .parents) i 0) (omega (arith, rooted i, tree-ok t shares ok .few)),
           pick-yes (excess t shares (suc i)) (eq-eqb (getD (t .parents) i 0) (getD (t .parents) i 0) refl),
           ap (excess t shares) next,
-          excess-le (network t) rooted (weight t shares) (excess t shares) (excess-of (network t) rooted (weight t shares)) (getD (t .parents) i 0) (omega (arith, rooted i)),
+          excess-le (network t) rooted (weight t shares) (excess t shares)
+              (excess-of (network t) rooted (weight t shares)) (getD (t .parents) i 0) (omega (arith, rooted i)),
           weights-bound t shares ok,
         )
 
     pub passing-on : (w y : ℕ) → w ≡ pick (not (getD has k false)) 1 → y ≡ excess t shares k
-        → Passing t shares (set has (getD (t .parents) i 0) true) (set below (getD (t .parents) i 0) (getD below (getD (t .parents) i 0) 0 + y)) (set excesses k y) (j - w) i
+        → Passing t shares (set has (getD (t .parents) i 0) true)
+        (set below (getD (t .parents) i 0) (getD below (getD (t .parents) i 0) 0 + y)) (set excesses k y)
+        (j - w) i
     passing-on w y ew ey =
         record {
           members = left-on (t .parents) ok-list k i within next (s .members) w ew;
           carried =
-              carried-on amounts (t .parents) (excess t shares) ok-list i (omega arith) below here (getD below (getD (t .parents) i 0) 0 + y)
+              carried-on amounts (t .parents) (excess t shares) ok-list i (omega arith) below here
+              (getD below (getD (t .parents) i 0) 0 + y)
               (ap (λ (x : ℕ). getD below (getD (t .parents) i 0) 0 + x) (ey ∙ ap (excess t shares) next));
           places = length-set excesses k y ∙ s .places;
-          found = λ v lo hi. elim (ℕ-discrete v k) [ yes d ↦ at-next v d | no d ↦ getD-set-other excesses k v y 0 d ∙ s .found v (omega arith) hi ];
+          found =
+              λ v lo hi. elim
+              (ℕ-discrete v k)
+              [ yes d ↦ at-next v d | no d ↦ getD-set-other excesses k v y 0 d ∙ s .found v (omega arith) hi ];
         }
       where
         at-next : (v : ℕ) → v ≡ k → getD (set excesses k y) v 0 ≡ excess t shares v
@@ -134,16 +150,30 @@ module _ (t : Tree) (shares : List ℤ) (ok : Proposed t shares) where
             ∙ ey
             ∙ ap (excess t shares) (sym d)
 
-  pub passing-end : {has : List Bool} {below excesses : List ℕ} {j k : ℕ} → k ≡ 0 → Passing t shares has below excesses j k → Exceeding t shares (getD below 0 0) excesses has
+  pub passing-end : {has : List Bool} {below excesses : List ℕ} {j k : ℕ} → k ≡ 0
+      → Passing t shares has below excesses j k → Exceeding t shares (getD below 0 0) excesses has
   passing-end {has} {below} {excesses} {j} {k} e s =
       record {
-        excess = λ v i. same v i ∙ excess-of (network t) rooted (weight t shares) v i ∙ ap (λ (x : ℕ). (weight t shares v + x) - ofArc (t .costs) v) (sym (same-children v));
-        all = omega (arith, s .carried .lacks 0 (omega arith), ap (λ (u : ℕ). sum u (child amounts (t .parents) (excess t shares) 0)) e, same-children 0);
-        ends = record { known = λ v i. left-end (t .parents) e (s .members) v (omega (arith, i .high, tree-ok t shares ok .few)) };
+        excess =
+            λ v i. same v i ∙ excess-of (network t) rooted (weight t shares) v i
+            ∙ ap (λ (x : ℕ). (weight t shares v + x) - ofArc (t .costs) v) (sym (same-children v));
+        all =
+            omega (
+              arith,
+              s .carried .lacks 0 (omega arith),
+              ap (λ (u : ℕ). sum u (child amounts (t .parents) (excess t shares) 0)) e,
+              same-children 0,
+            );
+        ends =
+            record {
+              known = λ v i. left-end (t .parents) e (s .members) v
+                  (omega (arith, i .high, tree-ok t shares ok .few));
+            };
       }
     where
       same : (v : ℕ) → In (length (t .parents)) v → getD excesses v 0 ≡ excess t shares v
       same v i = s .found v (omega arith) (i .high)
 
-      same-children : (v : ℕ) → children (network t) (λ u. getD excesses u 0) v ≡ children (network t) (excess t shares) v
+      same-children : (v : ℕ)
+          → children (network t) (λ u. getD excesses u 0) v ≡ children (network t) (excess t shares) v
       same-children v = sum-cong (length (t .parents)) (λ u i. ap (pick (eqb (ofArc (t .parents) u) v)) (same u i))

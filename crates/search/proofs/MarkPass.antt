@@ -33,7 +33,8 @@ module _ (ps excesses : List ℕ) where
     pub source : getD active 0 false ≡ true
     pub ruled : (v : ℕ) → In i v → getD active v false ≡ rule (λ u. getD active u false) v
     pub numbered : j ≡ count i (isMember ps)
-    pub marks : (v : ℕ) → In i v → hasChild ps v ≡ false → bit words (count (pred v) (isMember ps)) ≡ getD active v false
+    pub marks : (v : ℕ) → In i v → hasChild ps v ≡ false
+        → bit words (count (pred v) (isMember ps)) ≡ getD active v false
     pub none-beyond : (u : ℕ) → j ≤ u → bit words u ≡ false
     pub encoded : words ≡ wordsOf (bit words)
 
@@ -49,7 +50,8 @@ module _ (ps excesses : List ℕ) where
         encoded = none-encoded;
       }
 
-  pub marking-end : {active : List Bool} {words : List ℕ} {j i : ℕ} → i ≡ length ps → Marking active words j i → Marked ps excesses words
+  pub marking-end : {active : List Bool} {words : List ℕ} {j i : ℕ} → i ≡ length ps → Marking active words j i
+      → Marked ps excesses words
   marking-end {active} e s =
       record {
         act = λ v. getD active v false;
@@ -59,8 +61,10 @@ module _ (ps excesses : List ℕ) where
         encoded = s .encoded;
       }
 
-  module _ (sound : Sound ps) (inner : List Bool) (ends : Ends ps inner) (i : ℕ) (within : i < length ps) {active : List Bool} {words : List ℕ} {j : ℕ} (s : Marking active words j i)
-      {on chosen : Bool} (is-on : on ≡ (ltb 0 (getD excesses (suc i) 0) && getD active (getD ps i 0) false)) (is-chosen : chosen ≡ (on && not (getD inner (suc i) false))) where
+  module _ (sound : Sound ps) (inner : List Bool) (ends : Ends ps inner) (i : ℕ)
+      (within : i < length ps) {active : List Bool} {words : List ℕ} {j : ℕ} (s : Marking active words j i)
+      {on chosen : Bool} (is-on : on ≡ (ltb 0 (getD excesses (suc i) 0) && getD active (getD ps i 0) false))
+      (is-chosen : chosen ≡ (on && not (getD inner (suc i) false))) where
     after : List Bool
     after = set active (suc i) on
 
@@ -79,7 +83,8 @@ module _ (ps excesses : List ℕ) where
     parent-rule : getD active (getD ps i 0) false ≡ (eqb (getD ps i 0) 0 || getD active (getD ps i 0) false)
     parent-rule =
         ⊎-elim
-        (λ (e : eqb (getD ps i 0) 0 ≡ true). rw e (ap (λ (u : ℕ). getD active u false) (eqb-true (getD ps i 0) 0 e) ∙ s .source))
+        (λ (e : eqb (getD ps i 0) 0 ≡ true). rw e
+        (ap (λ (u : ℕ). getD active u false) (eqb-true (getD ps i 0) 0 e) ∙ s .source))
         (λ (e : eqb (getD ps i 0) 0 ≡ false). rw e)
         (both (eqb (getD ps i 0) 0))
 
@@ -90,7 +95,9 @@ module _ (ps excesses : List ℕ) where
     ruled-on : (v : ℕ) → In (suc i) v → getD after v false ≡ rule (λ u. getD after u false) v
     ruled-on v k =
         elim (decLe v i) [
-          | yes h ↦ earlier v h ∙ s .ruled v (omega arith) ∙ ap (λ (b : Bool). ltb 0 (getD excesses v 0) && (eqb (ofArc ps v) 0 || b)) (sym (earlier (ofArc ps v) (parent-before v k)))
+          | yes h ↦ earlier v h ∙ s .ruled v (omega arith)
+              ∙ ap (λ (b : Bool). ltb 0 (getD excesses v 0) && (eqb (ofArc ps v) 0 || b))
+              (sym (earlier (ofArc ps v) (parent-before v k)))
           | no h ↦ last (omega arith)
         ]
       where
@@ -98,19 +105,31 @@ module _ (ps excesses : List ℕ) where
         last e =
             rw e
             (newest ∙ is-on
-            ∙ ap (λ (b : Bool). ltb 0 (getD excesses (suc i) 0) && b) (parent-rule ∙ ap (λ (b : Bool). eqb (getD ps i 0) 0 || b) (sym (earlier (getD ps i 0) (sound .rising i)))))
+            ∙ ap (λ (b : Bool). ltb 0 (getD excesses (suc i) 0) && b)
+            (parent-rule
+            ∙ ap (λ (b : Bool). eqb (getD ps i 0) 0 || b) (sym (earlier (getD ps i 0) (sound .rising i)))))
 
-    module _ (words′ : List ℕ) {w : ℕ} (bits : (u : ℕ) → bit words′ u ≡ (bit words u || (chosen && (eqb u j && ltb j 1024)))) (is-w : w ≡ pick (not (getD inner (suc i) false)) 1) where
+    module _ (words′ : List ℕ) {w : ℕ}
+        (bits : (u : ℕ) → bit words′ u ≡ (bit words u || (chosen && (eqb u j && ltb j 1024))))
+        (is-w : w ≡ pick (not (getD inner (suc i) false)) 1) where
       -- a number other than the next keeps its bit
       kept : (u : ℕ) → (u ≡ j → ⊥) → bit words′ u ≡ bit words u
-      kept u h = bits u ∙ ap (λ (b : Bool). bit words u || (chosen && (b && ltb j 1024))) (ne-eqb u j h) ∙ ap (λ (b : Bool). bit words u || b) (and-false chosen) ∙ or-false (bit words u)
+      kept u h =
+          bits u ∙ ap (λ (b : Bool). bit words u || (chosen && (b && ltb j 1024))) (ne-eqb u j h)
+          ∙ ap (λ (b : Bool). bit words u || b) (and-false chosen) ∙ or-false (bit words u)
 
-      marks-on : (v : ℕ) → In (suc i) v → hasChild ps v ≡ false → bit words′ (count (pred v) (isMember ps)) ≡ getD after v false
+      marks-on : (v : ℕ) → In (suc i) v → hasChild ps v ≡ false
+          → bit words′ (count (pred v) (isMember ps)) ≡ getD after v false
       marks-on v k m =
           elim (decLe v i) [
             | yes h ↦
                 kept (count (pred v) (isMember ps))
-                (λ e. omega (arith, s .numbered, before-member (isMember ps) v (k .low) (ap not m), sum-longer v i (λ u. pick (isMember ps u) 1) h))
+                (λ e. omega (
+                  arith,
+                  s .numbered,
+                  before-member (isMember ps) v (k .low) (ap not m),
+                  sum-longer v i (λ u. pick (isMember ps u) 1) h,
+                ))
                 ∙ s .marks v (omega arith) m
                 ∙ sym (earlier v h)
             | no h ↦ last (omega arith)
@@ -121,7 +140,9 @@ module _ (ps excesses : List ℕ) where
               ap (λ (u : ℕ). bit words′ (count (pred u) (isMember ps))) e
               ∙ ap (bit words′) (sym (s .numbered))
               ∙ bits j
-              ∙ ap₂ (λ (a b : Bool). a || (chosen && b)) (s .none-beyond j (omega arith)) (and-both (eq-eqb j j refl) (lt-ltb j 1024 (omega (arith, s .numbered, count-le i (isMember ps), sound .few))))
+              ∙ ap₂ (λ (a b : Bool). a || (chosen && b)) (s .none-beyond j (omega arith))
+              (and-both (eq-eqb j j refl)
+              (lt-ltb j 1024 (omega (arith, s .numbered, count-le i (isMember ps), sound .few))))
               ∙ and-true chosen
               ∙ is-chosen
               ∙ ap (λ (b : Bool). on && not b) (known ∙ ap (hasChild ps) (sym e) ∙ m)
@@ -134,10 +155,12 @@ module _ (ps excesses : List ℕ) where
           ⊎-elim
           (λ (e : getD inner (suc i) false ≡ true).
           bits u
-          ∙ ap (λ (b : Bool). bit words u || (b && (eqb u j && ltb j 1024))) (is-chosen ∙ ap (λ (b : Bool). on && not b) e ∙ and-false on)
+          ∙ ap (λ (b : Bool). bit words u || (b && (eqb u j && ltb j 1024)))
+          (is-chosen ∙ ap (λ (b : Bool). on && not b) e ∙ and-false on)
           ∙ or-false (bit words u)
           ∙ s .none-beyond u (omega arith))
-          (λ (e : getD inner (suc i) false ≡ false). kept u (λ d. omega (arith, is-w, pick-yes 1 (ap not e))) ∙ s .none-beyond u (omega arith))
+          (λ (e : getD inner (suc i) false ≡ false). kept u (λ d. omega (arith, is-w, pick-yes 1 (ap not e)))
+          ∙ s .none-beyond u (omega arith))
           (both (getD inner (suc i) false))
 
       pub marking-on : words′ ≡ wordsOf (bit words′) → Marking (set active (suc i) on) words′ (j + w) (suc i)

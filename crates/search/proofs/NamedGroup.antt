@@ -26,13 +26,15 @@ module _ (t : Tree) (shares : List ℤ) (ok : Proposed t shares) {total : ℕ} {
     (e : Exceeding t shares total excesses inner) (m : Marked (t .parents) excesses words) where
   same : (j : ℕ) → j < memberCount (network t) → bit words j ≡ isIn (named (network t) shares) j
   same =
-      active-named (network t) (tree-ok t shares ok .rooted) (members-end t) shares (λ v. getD excesses v 0) (m .act) (e .excess) (m .active) (bit words)
+      active-named (network t) (tree-ok t shares ok .rooted) (members-end t) shares (λ v. getD excesses v 0) (m .act)
+      (e .excess) (m .active) (bit words)
       (λ v i k. m .marks v i (not-true (hasChild (t .parents) v) k))
 
   pub found-amount : overpayment (network t) shares (isIn (named (network t) shares)) ≡ pos total
   found-amount =
       sym (overpayment-same (network t) shares (bit words) (isIn (named (network t) shares)) same)
-      ∙ active-overpays (network t) (tree-ok t shares ok .rooted) (members-end t) shares (λ v. getD excesses v 0) (m .act) (e .excess) (m .active) (bit words)
+      ∙ active-overpays (network t) (tree-ok t shares ok .rooted) (members-end t) shares (λ v. getD excesses v 0)
+      (m .act) (e .excess) (m .active) (bit words)
       (λ v i k. m .marks v i (not-true (hasChild (t .parents) v) k))
       ∙ ap pos (sym (e .all))
 

@@ -28,6 +28,7 @@ pub record Exceeding (t : Tree) (shares : List ℤ) (total : ℕ) (excesses : Li
 pub record Marked (parents excesses words : List ℕ) : Type 0 where
   pub act : ℕ → Bool
   pub active : Active (networkOf parents []) (λ v. getD excesses v 0) act
-  pub marks : (v : ℕ) → In (length parents) v → hasChild parents v ≡ false → bit words (number (networkOf parents []) v) ≡ act v
+  pub marks : (v : ℕ) → In (length parents) v → hasChild parents v ≡ false
+      → bit words (number (networkOf parents []) v) ≡ act v
   pub none-beyond : (j : ℕ) → memberCount (networkOf parents []) ≤ j → bit words j ≡ false
   pub encoded : words ≡ wordsOf (bit words)

@@ -1,4 +1,7 @@
--- Bytes written one piece after another, and the loop that copies a piece.
+-- Bytes written one piece after another. `Put before at s after end`: s stands from `at` to `end`, all else as before.
+--
+--   put-then, put-none            two pieces are one; nothing
+--   copy-start, copy-on, copy-end the loop that copies a piece
 use Prim.Native.Nat.{ℕ, suc, _+_, _<_, _≤_}
 use native.Mathlib.Nat.{add-zero}
 use native.Mathlib.Numerals.{add-one}

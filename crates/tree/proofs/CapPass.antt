@@ -35,7 +35,8 @@ module _ (n : Network) {vertices : List ℕ} (listed : vertices ≡ members n) w
   vertex-is : (j : ℕ) (h : j < length vertices) → getD vertices j 0 ≡ vertex-at j h .vertex
   vertex-is j h =
       let v = vertex-at j h in
-      ap₂ (λ (l : List ℕ) (i : ℕ). getD l i 0) listed (sym (v .numbered)) ∙ member-at (n .member) (n .arcs) (v .vertex) (v .within) (v .is-member)
+      ap₂ (λ (l : List ℕ) (i : ℕ). getD l i 0) listed (sym (v .numbered))
+      ∙ member-at (n .member) (n .arcs) (v .vertex) (v .within) (v .is-member)
 
   pub member-in : (j : ℕ) → j < length vertices → In (n .arcs) (getD vertices j 0)
   member-in j h = rw (vertex-is j h) (vertex-at j h .within)
@@ -51,7 +52,9 @@ module _ (n : Network) (caps : List ℕ) where
       rw e
       (record {
         kept = length-replicate (n .arcs) 0;
-        placed = λ i h. getD-replicate (n .arcs) i 0 0 h ∙ sym (pick-no (view n caps (suc i)) (le-ltb (number n (suc i)) 0 (omega arith)));
+        placed =
+            λ i h. getD-replicate (n .arcs) i 0 0 h
+            ∙ sym (pick-no (view n caps (suc i)) (le-ltb (number n (suc i)) 0 (omega arith)));
       })
 
   no-cap : (v : ℕ) (b : Bool) → In (n .arcs) v → n .member v ≡ false → pick b (view n caps v) ≡ 0
@@ -73,7 +76,8 @@ module _ (n : Network) (caps : List ℕ) where
           ∙ ap (λ (x : ℕ). getD caps x 0) numbered)
 
       -- no other member has this number
-      other : (u : ℕ) → In (n .arcs) u → (u ≡ suc i → ⊥) → pick (ltb (number n u) j) (view n caps u) ≡ pick (ltb (number n u) (j + 1)) (view n caps u)
+      other : (u : ℕ) → In (n .arcs) u → (u ≡ suc i → ⊥)
+          → pick (ltb (number n u) j) (view n caps u) ≡ pick (ltb (number n u) (j + 1)) (view n caps u)
       other u k d =
           ⊎-elim
           (λ (m : n .member u ≡ true).
@@ -81,11 +85,14 @@ module _ (n : Network) (caps : List ℕ) where
           (same-test (ltb (number n u) j) (ltb (number n u) (j + 1))
           (λ l. lt-ltb (number n u) (j + 1) (omega (arith, ltb-true (number n u) j l)))
           (λ l. lt-ltb (number n u) j (omega (arith, ltb-true (number n u) (j + 1) l, not-it m)))))
-          (λ (m : n .member u ≡ false). no-cap u (ltb (number n u) j) k m ∙ sym (no-cap u (ltb (number n u) (j + 1)) k m))
+          (λ (m : n .member u ≡ false). no-cap u (ltb (number n u) j) k m
+          ∙ sym (no-cap u (ltb (number n u) (j + 1)) k m))
           (both (n .member u))
         where
           not-it : n .member u ≡ true → number n u ≡ j → ⊥
-          not-it m e = d (sym (member-at (n .member) (n .arcs) u k m) ∙ ap₂ (λ (l : List ℕ) (x : ℕ). getD l x 0) (sym listed) e ∙ next)
+          not-it m e =
+              d (sym (member-at (n .member) (n .arcs) u k m) ∙ ap₂ (λ (l : List ℕ) (x : ℕ). getD l x 0) (sym listed) e
+              ∙ next)
 
       pub placing-on : {out : List ℕ} → Placing out j → Placing (set out i (getD caps j 0)) (j + 1)
       placing-on {out} s =
@@ -95,7 +102,8 @@ module _ (n : Network) (caps : List ℕ) where
                 λ u l.
                 elim (ℕ-discrete u i) [
                   | yes d ↦ rw d (getD-set-same out i (getD caps j 0) 0 (omega (arith, s .kept)) ∙ own)
-                  | no d ↦ getD-set-other out i u (getD caps j 0) 0 d ∙ s .placed u l ∙ other (suc u) (omega arith) (λ e. d (omega arith))
+                  | no d ↦ getD-set-other out i u (getD caps j 0) 0 d ∙ s .placed u l
+                      ∙ other (suc u) (omega arith) (λ e. d (omega arith))
                 ];
           }
 
@@ -107,8 +115,10 @@ module _ (n : Network) (caps : List ℕ) where
           s .placed u (omega arith)
           ∙ ⊎-elim
           (λ (m : n .member (suc u) ≡ true).
-          pick-yes (view n caps (suc u)) (lt-ltb (number n (suc u)) j (omega (arith, number-lt n (suc u) i m, member-count n listed))))
-          (λ (m : n .member (suc u) ≡ false). no-cap (suc u) (ltb (number n (suc u)) j) i m ∙ sym (view-off n caps (suc u) i m))
+          pick-yes (view n caps (suc u))
+          (lt-ltb (number n (suc u)) j (omega (arith, number-lt n (suc u) i m, member-count n listed))))
+          (λ (m : n .member (suc u) ≡ false). no-cap (suc u) (ltb (number n (suc u)) j) i m
+          ∙ sym (view-off n caps (suc u) i m))
           (both (n .member (suc u)))
 
       pub placing-fits : {k : ℕ} → n .arcs ≤ mostArcs → Capped k caps → sum (length out) (ofArc out) ≤ mostTotal
@@ -117,7 +127,12 @@ module _ (n : Network) (caps : List ℕ) where
             arith,
             ap (λ (m : ℕ). sum m (ofArc out)) (s .kept),
             sum-bound (n .arcs) mostShare {f = ofArc out}
-                (λ v i. omega (arith, placing-end v i, pick-le (n .member v) (getD caps (number n v) 0), c .limited (number n v))),
+                (λ v i. omega (
+                  arith,
+                  placing-end v i,
+                  pick-le (n .member v) (getD caps (number n v) 0),
+                  c .limited (number n v),
+                )),
           )
 
       pub placing-sums : list (n .arcs) (sumBelow n (ofArc out)) ≡ list (n .arcs) (capSum n caps)

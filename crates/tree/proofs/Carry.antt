@@ -1,4 +1,9 @@
--- A pass from the last arc down to the first that adds what each arc has to its parent's place: flags by "or", amounts by "+".
+-- A pass from the last arc down to the first that adds what each arc has to its parent's place: flags by "or", amounts
+-- by "+". `Carried k a`: each place lacks only what the arcs 1 to k will still add.
+--
+--   carried-start                 the array as it is made
+--   carried-at                    the place of the arc that is met is complete
+--   carried-on                    the array after the arc is added to its parent
 use Prim.Native.Nat.{ℕ, zero, suc, _+_, _≤_, _<_}
 use mathlib.Core.Path.{_≡_, refl, sym, ap, ap₂, _∙_}
 use mathlib.Core.Bool.{Bool, true, false, _&&_, _||_, or-false}
@@ -85,13 +90,16 @@ module _ {A : Type 0} (M : Adding A) (ps : List ℕ) (f : ℕ → A) where
   carried-start =
       record {
         places = length-replicate 1024 (M .none);
-        lacks = λ v h. ap (λ (x : A). M .add x (children v)) (getD-replicate 1024 v (M .none) (M .none) h) ∙ M .none-add (children v);
+        lacks =
+            λ v h. ap (λ (x : A). M .add x (children v)) (getD-replicate 1024 v (M .none) (M .none) h)
+            ∙ M .none-add (children v);
       }
 
   none-over : (k : ℕ) (g : ℕ → A) → ((u : ℕ) → In k u → g u ≡ M .none) → M .over k g ≡ M .none
   none-over zero g h = M .over-zero g
   none-over (suc k) g h =
-      M .over-suc k g ∙ ap₂ (M .add) (none-over k g (λ u i. h u (in-more i))) (h (suc k) (in-last k)) ∙ M .add-none (M .none)
+      M .over-suc k g ∙ ap₂ (M .add) (none-over k g (λ u i. h u (in-more i))) (h (suc k) (in-last k))
+      ∙ M .add-none (M .none)
 
   module _ (sound : Sound ps) (j : ℕ) (within : suc j ≤ length ps) (a : List A) (carried : Carried (suc j) a) where
     -- all children of the next arc's vertex have been met
@@ -104,24 +112,29 @@ module _ {A : Type 0} (M : Adding A) (ps : List ℕ) (f : ℕ → A) where
         none-below : (u : ℕ) → In (suc j) u → child (suc j) u ≡ M .none
         none-below zero i = absurd (omega arith)
         none-below (suc u) i =
-            ap (λ (b : Bool). M .only b (f (suc u))) (ne-eqb (ofArc ps (suc u)) (suc j) (λ e. omega (arith, sound .rising u))) ∙ M .only-no (f (suc u))
+            ap (λ (b : Bool). M .only b (f (suc u)))
+            (ne-eqb (ofArc ps (suc u)) (suc j) (λ e. omega (arith, sound .rising u)))
+            ∙ M .only-no (f (suc u))
 
     -- what the next arc adds to the place of v
-    last-child : (v : ℕ) → v < 1024 → (x : A) → child v (suc j) ≡ x → M .add (getD a v (M .none)) (M .add (M .over j (child v)) x) ≡ children v
+    last-child : (v : ℕ) → v < 1024 → (x : A) → child v (suc j) ≡ x
+        → M .add (getD a v (M .none)) (M .add (M .over j (child v)) x) ≡ children v
     last-child v h x e =
         ap (λ (y : A). M .add (getD a v (M .none)) (M .add (M .over j (child v)) y)) (sym e)
         ∙ ap (M .add (getD a v (M .none))) (sym (M .over-suc j (child v)))
         ∙ carried .lacks v h
 
     -- the next arc adds what it has to its parent's place
-    pub carried-on : (w : A) → w ≡ M .add (getD a (ofArc ps (suc j)) (M .none)) (f (suc j)) → Carried j (set a (ofArc ps (suc j)) w)
+    pub carried-on : (w : A) → w ≡ M .add (getD a (ofArc ps (suc j)) (M .none)) (f (suc j))
+        → Carried j (set a (ofArc ps (suc j)) w)
     carried-on w e =
         record {
           places = length-set a (ofArc ps (suc j)) w ∙ carried .places;
           lacks = λ v h. elim (ℕ-discrete v (ofArc ps (suc j))) [ yes d ↦ here v h d | no d ↦ other v h d ];
         }
       where
-        here : (v : ℕ) → v < 1024 → v ≡ ofArc ps (suc j) → M .add (getD (set a (ofArc ps (suc j)) w) v (M .none)) (M .over j (child v)) ≡ children v
+        here : (v : ℕ) → v < 1024 → v ≡ ofArc ps (suc j)
+            → M .add (getD (set a (ofArc ps (suc j)) w) v (M .none)) (M .over j (child v)) ≡ children v
         here v h d =
             ap (λ (x : A). M .add x (M .over j (child v)))
             (ap (λ (u : ℕ). getD (set a (ofArc ps (suc j)) w) u (M .none)) d
@@ -129,9 +142,14 @@ module _ {A : Type 0} (M : Adding A) (ps : List ℕ) (f : ℕ → A) where
             ∙ e
             ∙ ap (λ (u : ℕ). M .add (getD a u (M .none)) (f (suc j))) (sym d))
             ∙ M .move (getD a v (M .none)) (f (suc j)) (M .over j (child v))
-            ∙ last-child v h (f (suc j)) (ap (λ (b : Bool). M .only b (f (suc j))) (eq-eqb (ofArc ps (suc j)) v (sym d)) ∙ M .only-yes (f (suc j)))
+            ∙ last-child v h (f (suc j))
+            (ap (λ (b : Bool). M .only b (f (suc j))) (eq-eqb (ofArc ps (suc j)) v (sym d))
+            ∙ M .only-yes (f (suc j)))
 
-        other : (v : ℕ) → v < 1024 → (v ≡ ofArc ps (suc j) → ⊥) → M .add (getD (set a (ofArc ps (suc j)) w) v (M .none)) (M .over j (child v)) ≡ children v
+        other : (v : ℕ) → v < 1024 → (v ≡ ofArc ps (suc j) → ⊥)
+            → M .add (getD (set a (ofArc ps (suc j)) w) v (M .none)) (M .over j (child v)) ≡ children v
         other v h d =
             ap₂ (M .add) (getD-set-other a (ofArc ps (suc j)) v w (M .none) d) (sym (M .add-none (M .over j (child v))))
-            ∙ last-child v h (M .none) (ap (λ (b : Bool). M .only b (f (suc j))) (ne-eqb (ofArc ps (suc j)) v (λ c. d (sym c))) ∙ M .only-no (f (suc j)))
+            ∙ last-child v h (M .none)
+            (ap (λ (b : Bool). M .only b (f (suc j))) (ne-eqb (ofArc ps (suc j)) v (λ c. d (sym c)))
+            ∙ M .only-no (f (suc j)))

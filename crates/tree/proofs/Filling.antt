@@ -23,7 +23,9 @@ module _ (n : ℕ) (f : ℕ → ℕ) where
     filling-on h w e =
         record {
           kept = length-set out i w ∙ s .kept;
-          filled = λ u l. elim (ℕ-discrete u i) [ yes d ↦ here u d | no d ↦ getD-set-other out i u w 0 d ∙ s .filled u (omega arith) ];
+          filled =
+              λ u l. elim
+              (ℕ-discrete u i) [ yes d ↦ here u d | no d ↦ getD-set-other out i u w 0 d ∙ s .filled u (omega arith) ];
         }
       where
         here : (u : ℕ) → u ≡ i → getD (set out i w) u 0 ≡ f u
@@ -32,6 +34,8 @@ module _ (n : ℕ) (f : ℕ → ℕ) where
     pub filling-list : n ≤ i → (g : ℕ → ℕ) → ((u : ℕ) → f u ≡ g (suc u)) → out ≡ list n g
     filling-list h g is = list-is g 0 n out (s .kept) (λ u l. s .filled u (omega arith) ∙ is u)
 
-    pub filling-end : n ≤ i → (wanted : List ℕ) → length wanted ≡ n → ((u : ℕ) → u < n → getD wanted u 0 ≡ f u) → out ≡ wanted
+    pub filling-end : n ≤ i → (wanted : List ℕ) → length wanted ≡ n → ((u : ℕ) → u < n → getD wanted u 0 ≡ f u)
+        → out ≡ wanted
     filling-end h wanted e says =
-        ext-getD 0 out wanted (s .kept ∙ sym e) (λ u l. s .filled u (omega (arith, s .kept)) ∙ sym (says u (omega (arith, s .kept))))
+        ext-getD 0 out wanted (s .kept ∙ sym e)
+        (λ u l. s .filled u (omega (arith, s .kept)) ∙ sym (says u (omega (arith, s .kept))))

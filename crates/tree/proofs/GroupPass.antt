@@ -43,7 +43,8 @@ module _ (t : Tree) (words : List ℕ) where
     pub costed : cost + sum k (λ u. pick (inUse u) (ofArc (t .costs) u)) ≡ groupCost (network t) chosen
 
 module _ (t : Tree) (words : List ℕ) (ok : Accepted t) where
-  pub costing-start : {j k : ℕ} → k ≡ length (t .parents) → j ≡ memberCount (network t) → Costing t words (replicate 1024 false) (replicate 1024 false) j 0 k
+  pub costing-start : {j k : ℕ} → k ≡ length (t .parents) → j ≡ memberCount (network t)
+      → Costing t words (replicate 1024 false) (replicate 1024 false) j 0 k
   unfolding groupCost
   costing-start e l =
       rw (e, l)
@@ -53,8 +54,10 @@ module _ (t : Tree) (words : List ℕ) (ok : Accepted t) where
         costed = zero-add (sum (length (t .parents)) (λ u. pick (inUse t words u) (ofArc (t .costs) u)));
       })
 
-  pub costing-end : {has users : List Bool} {j cost k : ℕ} → k ≡ 0 → Costing t words has users j cost k → cost ≡ groupCost (network t) (chosen t words)
-  costing-end {cost} e s = omega (arith, s .costed, ap (λ (i : ℕ). sum i (λ u. pick (inUse t words u) (ofArc (t .costs) u))) e)
+  pub costing-end : {has users : List Bool} {j cost k : ℕ} → k ≡ 0 → Costing t words has users j cost k
+      → cost ≡ groupCost (network t) (chosen t words)
+  costing-end {cost} e s =
+      omega (arith, s .costed, ap (λ (i : ℕ). sum i (λ u. pick (inUse t words u) (ofArc (t .costs) u))) e)
 
   -- no group costs more than the whole
   group-bound : groupCost (network t) (chosen t words) ≤ mostWhole
@@ -62,22 +65,28 @@ module _ (t : Tree) (words : List ℕ) (ok : Accepted t) where
   group-bound =
       omega (
         arith,
-        sum-mono (length (t .parents)) {f = λ k. pick (inUse t words k) (ofArc (t .costs) k)} {g = ofArc (t .costs)} (λ k i. pick-le (inUse t words k) (ofArc (t .costs) k)),
+        sum-mono (length (t .parents)) {f = λ k. pick (inUse t words k) (ofArc (t .costs) k)} {g = ofArc (t .costs)}
+            (λ k i. pick-le (inUse t words k) (ofArc (t .costs) k)),
         whole-bound t ok,
       )
 
-  module _ (k i : ℕ) (within : k ≤ length (t .parents)) (next : k ≡ suc i) {has users : List Bool} {j cost : ℕ} (s : Costing t words has users j cost k) where
+  module _ (k i : ℕ) (within : k ≤ length (t .parents)) (next : k ≡ suc i) {has users : List Bool} {j cost : ℕ}
+      (s : Costing t words has users j cost k) where
     known : getD has k false ≡ hasChild (t .parents) (suc i)
     known = left-known (t .parents) (sound t ok) k i within next (s .members) ∙ ap (hasChild (t .parents)) next
 
     carried-here : Carried flags (t .parents) (inUse t words) (suc i) users
     carried-here = subst (λ (u : ℕ). Carried flags (t .parents) (inUse t words) u users) next (s .carried)
 
-    by-child : getD users k false ≡ some (length (t .parents)) (λ u. eqb (ofArc (t .parents) u) (suc i) && inUse t words u)
-    by-child = ap (λ (u : ℕ). getD users u false) next ∙ carried-at flags (t .parents) (inUse t words) (sound t ok) i (omega arith) users carried-here
+    by-child : getD users k false
+        ≡ some (length (t .parents)) (λ u. eqb (ofArc (t .parents) u) (suc i) && inUse t words u)
+    by-child =
+        ap (λ (u : ℕ). getD users u false) next
+        ∙ carried-at flags (t .parents) (inUse t words) (sound t ok) i (omega arith) users carried-here
 
     costed-on : (here : Bool) → here ≡ inUse t words k
-        → cost + pick here (getD (t .costs) i 0) + sum i (λ u. pick (inUse t words u) (ofArc (t .costs) u)) ≡ groupCost (network t) (chosen t words)
+        → cost + pick here (getD (t .costs) i 0) + sum i (λ u. pick (inUse t words u) (ofArc (t .costs) u))
+        ≡ groupCost (network t) (chosen t words)
     costed-on here e =
         omega (
           arith,
@@ -96,18 +105,22 @@ module _ (t : Tree) (words : List ℕ) (ok : Accepted t) where
     costing-number = left-number (t .parents) (sound t ok) k i within next (s .members)
 
     -- at a member by its bit, elsewhere by a child arc
-    pub costing-used : (n : ℕ) → n ≡ number (network t) k → cond (getD has k false) (getD users k false) (bit words n) ≡ inUse t words k
+    pub costing-used : (n : ℕ) → n ≡ number (network t) k
+        → cond (getD has k false) (getD users k false) (bit words n) ≡ inUse t words k
     costing-used n e =
         ⊎-elim
         (λ (h : hasChild (t .parents) (suc i) ≡ true).
         ap₂ (λ (b r : Bool). cond b r (bit words n)) (known ∙ h) by-child
-        ∙ sym (ap (λ (b : Bool). b || used-child) (ap (λ (b : Bool). chosen t words (suc i) && not b) h ∙ and-false (chosen t words (suc i))))
+        ∙ sym
+        (ap (λ (b : Bool). b || used-child)
+        (ap (λ (b : Bool). chosen t words (suc i) && not b) h ∙ and-false (chosen t words (suc i))))
         ∙ sym by-rule)
         (λ (h : hasChild (t .parents) (suc i) ≡ false).
         ap (λ (b : Bool). cond b (getD users k false) (bit words n)) (known ∙ h)
         ∙ ap (bit words) (e ∙ ap (number (network t)) next)
         ∙ sym
-        (ap₂ (λ (a b : Bool). a || b) (ap (λ (b : Bool). chosen t words (suc i) && not b) h ∙ and-true (chosen t words (suc i))) (no-child h)
+        (ap₂ (λ (a b : Bool). a || b)
+        (ap (λ (b : Bool). chosen t words (suc i) && not b) h ∙ and-true (chosen t words (suc i))) (no-child h)
         ∙ or-false (chosen t words (suc i)))
         ∙ sym by-rule)
         (both (hasChild (t .parents) (suc i)))
@@ -116,26 +129,34 @@ module _ (t : Tree) (words : List ℕ) (ok : Accepted t) where
         used-child = some (length (t .parents)) (λ u. eqb (ofArc (t .parents) u) (suc i) && inUse t words u)
 
         by-rule : inUse t words k ≡ ((chosen t words (suc i) && not (hasChild (t .parents) (suc i))) || used-child)
-        by-rule = ap (inUse t words) next ∙ used-children (network t) (ok .rooted) (chosen t words) (suc i) (omega arith)
+        by-rule =
+            ap (inUse t words) next ∙ used-children (network t) (ok .rooted) (chosen t words) (suc i) (omega arith)
 
         no-child : hasChild (t .parents) (suc i) ≡ false → used-child ≡ false
         no-child h =
             not-so used-child
             (λ c.
             let u = some-is (length (t .parents)) (λ u. eqb (ofArc (t .parents) u) (suc i) && inUse t words u) c in
-            clash (has-child-of (t .parents) (u .which) (suc i) (u .within) (and-first (eqb (ofArc (t .parents) (u .which)) (suc i)) (inUse t words (u .which)) (u .passes))) h)
+            clash
+            (has-child-of (t .parents) (u .which) (suc i) (u .within)
+            (and-first (eqb (ofArc (t .parents) (u .which)) (suc i)) (inUse t words (u .which)) (u .passes))) h)
 
-    pub costing-fits : {here : Bool} {paid : ℕ} → here ≡ inUse t words k → paid ≡ pick here (getD (t .costs) i 0) → cost + paid ≤ mostWhole
+    pub costing-fits : {here : Bool} {paid : ℕ} → here ≡ inUse t words k → paid ≡ pick here (getD (t .costs) i 0)
+        → cost + paid ≤ mostWhole
     costing-fits {here} e p = omega (arith, costed-on here e, group-bound)
 
-    pub costing-on : {w paid : ℕ} {here up : Bool} → w ≡ pick (not (getD has k false)) 1 → here ≡ inUse t words k → paid ≡ pick here (getD (t .costs) i 0)
+    pub costing-on : {w paid : ℕ} {here up : Bool} → w ≡ pick (not (getD has k false)) 1 → here ≡ inUse t words k
+        → paid ≡ pick here (getD (t .costs) i 0)
         → up ≡ (getD users (getD (t .parents) i 0) false || here)
-        → Costing t words (set has (getD (t .parents) i 0) true) (set users (getD (t .parents) i 0) up) (j - w) (cost + paid) i
+        → Costing t words (set has (getD (t .parents) i 0) true) (set users (getD (t .parents) i 0) up) (j - w)
+        (cost + paid) i
     costing-on {w} {paid} {here} {up} ew eh ep eu =
         record {
           members = left-on (t .parents) (sound t ok) k i within next (s .members) w ew;
           carried =
               carried-on flags (t .parents) (inUse t words) (sound t ok) i (omega arith) users carried-here up
               (eu ∙ ap (λ (b : Bool). getD users (getD (t .parents) i 0) false || b) (eh ∙ ap (inUse t words) next));
-          costed = ap (λ (x : ℕ). cost + x + sum i (λ u. pick (inUse t words u) (ofArc (t .costs) u))) ep ∙ costed-on here eh;
+          costed =
+              ap (λ (x : ℕ). cost + x + sum i (λ u. pick (inUse t words u) (ofArc (t .costs) u))) ep
+              ∙ costed-on here eh;
         }

@@ -1,4 +1,5 @@
--- The members in a pass from the last arc down: which vertices have a child, how many members there are, and their list.
+-- The members in a pass from the last arc down: which vertices have a child, how many members there are, and their
+-- list.
 use Prim.Native.Nat.{ℕ, suc, pred, _+_, _-_, _≤_, _<_}
 use mathlib.Core.Path.{_≡_, refl, sym, ap, ap₂, _∙_, subst}
 use mathlib.Core.Bool.{Bool, true, false, not, cond, and-true, or-false}
@@ -21,7 +22,8 @@ use Rattle.tree.proofs.Carry.{flags, children, Carried, carried-start, 
 -- the list from a place on that has just been written
 drop-set : (l : List ℕ) (i x : ℕ) → i < length l → drop i (set l i x) ≡ x ∷ drop (suc i) l
 drop-set l i x h =
-    drop-cons (set l i x) i 0 (omega (arith, length-set l i x)) ∙ ap₂ (λ (y : ℕ) (r : List ℕ). y ∷ r) (getD-set-same l i x 0 h) (drop-set-lt (suc i) l i x (omega arith))
+    drop-cons (set l i x) i 0 (omega (arith, length-set l i x))
+    ∙ ap₂ (λ (y : ℕ) (r : List ℕ). y ∷ r) (getD-set-same l i x 0 h) (drop-set-lt (suc i) l i x (omega arith))
 
 module _ (ps : List ℕ) where
   -- the vertices that have a child, where every arc tells its parent
@@ -39,7 +41,9 @@ module _ (ps : List ℕ) where
     met-at met = carried-at flags ps everyone sound j within has met ∙ met-children (suc j)
 
     pub met-on : Met (suc j) has → Met j (set has (ofArc ps (suc j)) true)
-    met-on met = carried-on flags ps everyone sound j within has met true (sym (or-second (getD has (ofArc ps (suc j)) false) refl))
+    met-on met =
+        carried-on flags ps everyone sound j within has met true
+        (sym (or-second (getD has (ofArc ps (suc j)) false) refl))
 
   -- the members, whatever the costs are
   abbrev pub isMember : ℕ → Bool
@@ -52,13 +56,17 @@ module _ (ps : List ℕ) where
 
   pub counting-start : {k : ℕ} → k ≡ length ps → Counting (replicate 1024 false) 0 k
   counting-start e =
-      record { met = subst (λ (i : ℕ). Met i (replicate 1024 false)) (sym e) (carried-start flags ps everyone); counted = rw e (zero-add (count (length ps) isMember)) }
+      record {
+        met = subst (λ (i : ℕ). Met i (replicate 1024 false)) (sym e) (carried-start flags ps everyone);
+        counted = rw e (zero-add (count (length ps) isMember));
+      }
 
   pub counting-end : {has : List Bool} {n k : ℕ} → k ≡ 0 → Counting has n k → n ≡ count (length ps) isMember
   counting-end {n} e c = omega (arith, c .counted, ap (λ (i : ℕ). count i isMember) e)
 
   module _ (sound : Sound ps) (k j : ℕ) (within : k ≤ length ps) (next : k ≡ suc j) (has : List Bool) where
-    pub counting-on : (n w : ℕ) → w ≡ pick (not (getD has k false)) 1 → Counting has n k → Counting (set has (getD ps j 0) true) (n + w) j
+    pub counting-on : (n w : ℕ) → w ≡ pick (not (getD has k false)) 1 → Counting has n k
+        → Counting (set has (getD ps j 0) true) (n + w) j
     counting-on n w e c =
         record {
           met = met-on sound j (omega arith) has at-next;
@@ -67,7 +75,8 @@ module _ (ps : List ℕ) where
                 arith,
                 c .counted,
                 ap (λ (i : ℕ). count i isMember) next,
-                e ∙ ap (λ (b : Bool). pick (not b) 1) (ap (λ (i : ℕ). getD has i false) next ∙ met-at sound j (omega arith) has at-next),
+                e ∙ ap (λ (b : Bool). pick (not b) 1)
+                    (ap (λ (i : ℕ). getD has i false) next ∙ met-at sound j (omega arith) has at-next),
               );
         }
       where
@@ -83,23 +92,28 @@ module _ (ps : List ℕ) where
   left-start e l = rw (e, l) (record { met = carried-start flags ps everyone; left = refl })
 
   -- after the last arc it is known of every vertex
-  pub left-end : {has : List Bool} {j k : ℕ} → k ≡ 0 → Left has j k → (v : ℕ) → v < 1024 → getD has v false ≡ hasChild ps v
+  pub left-end : {has : List Bool} {j k : ℕ} → k ≡ 0 → Left has j k → (v : ℕ) → v < 1024
+      → getD has v false ≡ hasChild ps v
   left-end {has} e l v h =
       sym (or-false (getD has v false)) ∙ subst (λ (i : ℕ). Met i has) e (l .met) .lacks v h ∙ met-children v
 
-  module _ (sound : Sound ps) (k i : ℕ) (within : k ≤ length ps) (next : k ≡ suc i) {has : List Bool} {j : ℕ} (l : Left has j k) where
+  module _ (sound : Sound ps) (k i : ℕ) (within : k ≤ length ps) (next : k ≡ suc i) {has : List Bool} {j : ℕ}
+      (l : Left has j k) where
     met-next : Met (suc i) has
     met-next = subst (λ (u : ℕ). Met u has) next (l .met)
 
     -- of the next arc's vertex it is known whether it has a child
     pub left-known : getD has k false ≡ hasChild ps k
-    left-known = ap (λ (u : ℕ). getD has u false) next ∙ met-at sound i (omega arith) has met-next ∙ ap (hasChild ps) (sym next)
+    left-known =
+        ap (λ (u : ℕ). getD has u false) next ∙ met-at sound i (omega arith) has met-next
+        ∙ ap (hasChild ps) (sym next)
 
     one-less : (w : ℕ) → w ≡ pick (not (getD has k false)) 1 → j ≡ count i isMember + w
     one-less w e =
         l .left
         ∙ ap (λ (u : ℕ). count u isMember) next
-        ∙ ap (λ (x : ℕ). count i isMember + x) (ap (λ (b : Bool). pick (not b) 1) (ap (hasChild ps) (sym next) ∙ sym left-known) ∙ sym e)
+        ∙ ap (λ (x : ℕ). count i isMember + x)
+        (ap (λ (b : Bool). pick (not b) 1) (ap (hasChild ps) (sym next) ∙ sym left-known) ∙ sym e)
 
     pub left-room : (w : ℕ) → w ≡ pick (not (getD has k false)) 1 → w ≤ j
     left-room w e = omega (arith, one-less w e)
@@ -121,23 +135,28 @@ module _ (ps : List ℕ) where
     pub place : j ≡ length (membersTo isMember k)
     pub held : membersTo isMember k ++ drop j out ≡ membersTo isMember (length ps)
 
-  pub listing-start : {out : List ℕ} {k : ℕ} → k ≡ length ps → length out ≡ count (length ps) isMember → Listing out (replicate 1024 false) (length out) k
+  pub listing-start : {out : List ℕ} {k : ℕ} → k ≡ length ps → length out ≡ count (length ps) isMember
+      → Listing out (replicate 1024 false) (length out) k
   listing-start {out} e l =
       rw e
       (record {
         met = carried-start flags ps everyone;
         fits = omega arith;
         place = l ∙ sym (members-length isMember (length ps));
-        held = ap (λ (r : List ℕ). membersTo isMember (length ps) ++ r) (drop-length out) ∙ append-nil (membersTo isMember (length ps));
+        held =
+            ap (λ (r : List ℕ). membersTo isMember (length ps) ++ r) (drop-length out)
+            ∙ append-nil (membersTo isMember (length ps));
       })
 
-  pub listing-end : {out : List ℕ} {has : List Bool} {j k : ℕ} → k ≡ 0 → Listing out has j k → out ≡ membersTo isMember (length ps)
+  pub listing-end : {out : List ℕ} {has : List Bool} {j k : ℕ} → k ≡ 0 → Listing out has j k
+      → out ≡ membersTo isMember (length ps)
   unfolding membersTo
   listing-end {out} {j} {k} e l =
       let first : j ≡ 0 = l .place ∙ ap (λ (i : ℕ). length (membersTo isMember i)) e in
       ap₂ (λ (i u : ℕ). membersTo isMember i ++ drop u out) (sym e) (sym first) ∙ l .held
 
-  module _ (sound : Sound ps) (k i : ℕ) (within : k ≤ length ps) (next : k ≡ suc i) {has : List Bool} {out : List ℕ} {j : ℕ} (l : Listing out has j k) where
+  module _ (sound : Sound ps) (k i : ℕ) (within : k ≤ length ps)
+      (next : k ≡ suc i) {has : List Bool} {out : List ℕ} {j : ℕ} (l : Listing out has j k) where
     here : Met (suc i) has
     here = subst (λ (u : ℕ). Met u has) next (l .met)
 
@@ -154,7 +173,8 @@ module _ (ps : List ℕ) where
     pub listing-room : getD has k false ≡ false → 1 ≤ j
     listing-room e = omega (arith, one-place e)
 
-    pub listing-on : (out′ : List ℕ) (j′ : ℕ) → j′ ≡ j - pick (not (getD has k false)) 1 → out′ ≡ cond (getD has k false) out (set out (j - 1) k)
+    pub listing-on : (out′ : List ℕ) (j′ : ℕ) → j′ ≡ j - pick (not (getD has k false)) 1
+        → out′ ≡ cond (getD has k false) out (set out (j - 1) k)
         → Listing out′ (set has (getD ps i 0) true) j′ i
     listing-on out′ j′ ej eo =
         ⊎-elim
@@ -168,9 +188,16 @@ module _ (ps : List ℕ) where
         passed : getD has k false ≡ true → j′ ≡ j → out′ ≡ out → Listing out′ (set has (getD ps i 0) true) j′ i
         passed e dj dl =
             let none-more = ap (membersTo isMember) next ∙ members-no isMember i (ap not (sym known ∙ e)) in
-            rw (dj, dl) (record { met = on; fits = l .fits; place = l .place ∙ ap length none-more; held = ap (λ (r : List ℕ). r ++ drop j out) (sym none-more) ∙ l .held })
+            rw (dj, dl)
+            (record {
+              met = on;
+              fits = l .fits;
+              place = l .place ∙ ap length none-more;
+              held = ap (λ (r : List ℕ). r ++ drop j out) (sym none-more) ∙ l .held;
+            })
 
-        placed : getD has k false ≡ false → j′ ≡ j - 1 → out′ ≡ set out (j - 1) k → Listing out′ (set has (getD ps i 0) true) j′ i
+        placed : getD has k false ≡ false → j′ ≡ j - 1 → out′ ≡ set out (j - 1) k
+            → Listing out′ (set has (getD ps i 0) true) j′ i
         placed e dj dl =
             let after : suc j′ ≡ j = omega (arith, dj, one-place e) in
             let left : j′ < length out = omega (arith, dj, one-place e, l .fits) in
@@ -181,7 +208,8 @@ module _ (ps : List ℕ) where
               place = omega (arith, dj, one-place e);
               held =
                   ap (λ (r : List ℕ). membersTo isMember i ++ drop j′ r) written
-                  ∙ ap (λ (r : List ℕ). membersTo isMember i ++ r) (drop-set out j′ (suc i) left ∙ ap (λ (u : ℕ). suc i ∷ drop u out) after)
+                  ∙ ap (λ (r : List ℕ). membersTo isMember i ++ r)
+                  (drop-set out j′ (suc i) left ∙ ap (λ (u : ℕ). suc i ∷ drop u out) after)
                   ∙ sym (append-assoc (membersTo isMember i) (suc i ∷ []) (drop j out))
                   ∙ ap (λ (r : List ℕ). r ++ drop j out) (sym (one-more e))
                   ∙ l .held;

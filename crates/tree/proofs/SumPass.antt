@@ -43,7 +43,8 @@ module _ (ps xs : List ℕ) where
   summing-end {out} e s = list-is total 0 (length ps) out (s .kept) (λ i h. s .written i (omega arith) h)
 
   module _ (sound : Sound ps) where
-    pub summing-whole : {out below : List ℕ} {k : ℕ} → k ≡ 0 → Summing out below k → getD below 0 0 ≡ sum (length ps) (ofArc xs)
+    pub summing-whole : {out below : List ℕ} {k : ℕ} → k ≡ 0 → Summing out below k
+        → getD below 0 0 ≡ sum (length ps) (ofArc xs)
     summing-whole {below} {k} e s =
         omega (
           arith,
@@ -80,7 +81,8 @@ module _ (ps xs : List ℕ) where
             children-le (networkOf ps []) (sound .rising) (ofArc xs) (getD ps j 0) (omega (arith, sound .rising j)),
           )
 
-      pub summing-on : (w : ℕ) → w ≡ total k → Summing (set out j w) (set below (getD ps j 0) (getD below (getD ps j 0) 0 + w)) j
+      pub summing-on : (w : ℕ) → w ≡ total k
+          → Summing (set out j w) (set below (getD ps j 0) (getD below (getD ps j 0) 0 + w)) j
       summing-on w e =
           record {
             carried =
@@ -88,9 +90,13 @@ module _ (ps xs : List ℕ) where
                 (ap (λ (x : ℕ). getD below (getD ps j 0) 0 + x) (e ∙ ap total next));
             kept = length-set out j w ∙ s .kept;
             waiting = λ i h. getD-set-other out j i w 0 (λ d. omega arith) ∙ s .waiting i (omega arith);
-            written = λ i lo hi. elim (ℕ-discrete i j) [ yes d ↦ at-next i d | no d ↦ getD-set-other out j i w 0 d ∙ s .written i (omega arith) hi ];
+            written =
+                λ i lo hi. elim
+                (ℕ-discrete i j)
+                [ yes d ↦ at-next i d | no d ↦ getD-set-other out j i w 0 d ∙ s .written i (omega arith) hi ];
           }
         where
           at-next : (i : ℕ) → i ≡ j → getD (set out j w) i 0 ≡ total (suc i)
           at-next i d =
-              ap (λ (u : ℕ). getD (set out j w) u 0) d ∙ getD-set-same out j w 0 (omega (arith, s .kept)) ∙ e ∙ ap total (next ∙ ap suc (sym d))
+              ap (λ (u : ℕ). getD (set out j w) u 0) d ∙ getD-set-same out j w 0 (omega (arith, s .kept)) ∙ e
+              ∙ ap total (next ∙ ap suc (sym d))

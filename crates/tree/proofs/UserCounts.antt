@@ -25,7 +25,11 @@ module _ {ones : List ℕ} {k : ℕ} (are : ones ≡ replicate k 1) where
         limited = λ j.
             elim (decLt j n) [
               | yes h ↦ omega (arith, getD-replicate {A = ℕ} n j 1 0 h)
-              | no h ↦ omega (arith, List·getD-eq-default {A = ℕ} (replicate n 1) 0 {n = j} (omega (arith, length-replicate {A = ℕ} n 1)))
+              | no h ↦ omega (
+                arith,
+                List·getD-eq-default {A = ℕ} (replicate n 1) 0 {n = j}
+                    (omega (arith, length-replicate {A = ℕ} n 1)),
+              )
             ];
       })
 

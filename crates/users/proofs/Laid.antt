@@ -43,7 +43,8 @@ two-terms n i j f less high =
     omega (arith, term₀-le j i f less, sum₀-is j f, sum₀-is n f, sum-longer (suc j) n (λ k. f (pred k)) high)
 
 -- the numbers of users as they are handed in
-pub user-counts : (ps : List ℕ) → Sound ps → {counts : List ℕ} → counts ≡ list (length ps) (userCount (networkOf ps [])) → Counts (length ps) counts
+pub user-counts : (ps : List ℕ) → Sound ps → {counts : List ℕ}
+    → counts ≡ list (length ps) (userCount (networkOf ps [])) → Counts (length ps) counts
 user-counts ps sound e =
     let n = networkOf ps [] in
     rw e
@@ -60,7 +61,8 @@ user-counts ps sound e =
           );
     })
 
-module _ (ps counts starts : List ℕ) (sound : Sound ps) (counted : counts ≡ list (length ps) (userCount (networkOf ps [])))
+module _ (ps counts starts : List ℕ) (sound : Sound ps)
+    (counted : counts ≡ list (length ps) (userCount (networkOf ps [])))
     (begun : Begun ps counts starts) where
   abbrev net : Network
   net = networkOf ps []
@@ -85,7 +87,10 @@ module _ (ps counts starts : List ℕ) (sound : Sound ps) (counted : counts ≡ 
   module _ {vertices : List ℕ} (are : vertices ≡ members net) where
     -- the members' places are those below their number
     slots : (g : ℕ → ℕ) → sum₀ (memberCount net) (λ j. g (slot vertices starts j)) ≡ before g (memberCount net)
-    slots g = rw are (over-members net (λ v. g (ofArc starts v)) ∙ all-filled net (ofArc starts) (sound .rising) begins (members-end (treeOf ps [])) g)
+    slots g =
+        rw are
+        (over-members net (λ v. g (ofArc starts v))
+        ∙ all-filled net (ofArc starts) (sound .rising) begins (members-end (treeOf ps [])) g)
 
     slot-within : (j : ℕ) → j < length vertices → slot vertices starts j < memberCount net
     slot-within j h =
@@ -152,8 +157,10 @@ module _ (ps counts starts : List ℕ) (sound : Sound ps) (counted : counts ≡ 
                       omega (
                         arith,
                         part-total g order (ofArc counts k) (ofArc starts k) (part-within k (omega arith)),
-                        arc-filled net (ofArc starts) (sound .rising) begins (members-end (treeOf ps [])) (λ t. g (getD order t 0)) k (omega arith),
-                        ap (λ (c : ℕ). before (λ t. g (getD order t 0)) (ofArc starts k + c)) (count-of k (omega arith)),
+                        arc-filled net (ofArc starts) (sound .rising) begins (members-end (treeOf ps []))
+                            (λ t. g (getD order t 0)) k (omega arith),
+                        ap (λ (c : ℕ). before (λ t. g (getD order t 0)) (ofArc starts k + c))
+                            (count-of k (omega arith)),
                         over-users net (λ v. g (getD order (ofArc starts v) 0)) k,
                         at-slots g k,
                       );

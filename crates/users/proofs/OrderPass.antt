@@ -31,7 +31,8 @@ module _ (vertices starts : List ℕ) where
             elim (ℕ-discrete i j) [
               | yes d ↦ rw d (getD-set-same order (slot vertices starts j) j 0 (omega (arith, s .kept, a .within j h)))
               | no d ↦
-                  getD-set-other order (slot vertices starts j) (slot vertices starts i) j 0 (a .apart i j (omega arith) h)
+                  getD-set-other order (slot vertices starts j) (slot vertices starts i) j 0
+                  (a .apart i j (omega arith) h)
                   ∙ s .placed i (omega arith)
             ];
       })

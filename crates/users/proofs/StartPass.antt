@@ -1,4 +1,5 @@
--- Where the arcs' users begin, in a pass from the first arc on that keeps for each vertex where the next child arc's do.
+-- Where the arcs' users begin, in a pass from the first arc on that keeps for each vertex where the next child arc's
+-- do.
 use Prim.Native.Nat.{ℕ, zero, suc, _+_, _*_, _≤_, _<_}
 use mathlib.Core.Path.{_≡_, refl, sym, _∙_}
 use mathlib.Core.List.{List}
@@ -40,9 +41,11 @@ module _ (ps counts : List ℕ) where
       }
 
   pub beginning-end : {starts next : List ℕ} {i : ℕ} → length ps ≤ i → Beginning starts next i → Begun ps counts starts
-  beginning-end h s = record { kept = s .kept; begins = record { source = refl; after = λ u l. s .begins .after u (omega arith) } }
+  beginning-end h s =
+      record { kept = s .kept; begins = record { source = refl; after = λ u l. s .begins .after u (omega arith) } }
 
-  module _ (sound : Sound ps) (counted : Counts (length ps) counts) {starts next : List ℕ} {i : ℕ} (within : i < length ps) (s : Beginning starts next i) where
+  module _ (sound : Sound ps) (counted : Counts (length ps) counts) {starts next : List ℕ} {i : ℕ}
+      (within : i < length ps) (s : Beginning starts next i) where
     -- the next arc's parent, and where the arc begins
     abbrev p : ℕ
     p = getD ps i 0
@@ -74,7 +77,8 @@ module _ (ps counts : List ℕ) where
     own : getD starts′ i 0 ≡ w
     own = getD-set-same starts i w 0 (omega (arith, s .kept))
 
-    after-on : (u : ℕ) → u < suc i → getD starts′ u 0 ≡ ofArc starts′ (getD ps u 0) + leaving (ofArc ps) (ofArc counts) (getD ps u 0) u
+    after-on : (u : ℕ) → u < suc i
+        → getD starts′ u 0 ≡ ofArc starts′ (getD ps u 0) + leaving (ofArc ps) (ofArc counts) (getD ps u 0) u
     after-on u h =
         elim (ℕ-discrete u i) [
           | yes e ↦ rw e (omega (arith, own, at-parent .is, kept-before p (sound .rising i)))
@@ -97,14 +101,17 @@ module _ (ps counts : List ℕ) where
 
     next-here : Next starts′ (suc i) (suc i) (getD next′ (suc i) 0)
     next-here =
-        rw (getD-set-same moved (suc i) w 0 (omega (arith, length-set next p (w + getD counts i 0), s .places, sound .few)))
+        rw (getD-set-same moved (suc i) w 0
+        (omega (arith, length-set next p (w + getD counts i 0), s .places, sound .few)))
         (record { is = omega (arith, own, none-leave); small = omega (arith, at-parent .small) })
 
     next-of-parent : Next starts′ (suc i) p (getD moved p 0)
     next-of-parent =
         rw (getD-set-same next p (w + getD counts i 0) 0 (omega (arith, s .places, sound .few, sound .rising i)))
         (record {
-          is = omega (arith, at-parent .is, kept-before p (sound .rising i), pick-yes (getD counts i 0) (eq-eqb p p refl));
+          is =
+              omega
+              (arith, at-parent .is, kept-before p (sound .rising i), pick-yes (getD counts i 0) (eq-eqb p p refl));
           small = omega (arith, at-parent .small, counted .limited i within);
         })
 
@@ -120,7 +127,13 @@ module _ (ps counts : List ℕ) where
                     let at = s .nexts v (omega arith) in
                     rw (getD-set-other next p v (w + getD counts i 0) 0 d)
                     (record {
-                      is = omega (arith, at .is, kept-before v (omega arith), pick-no (getD counts i 0) (ne-eqb p v (λ q. d (sym q))));
+                      is =
+                          omega (
+                            arith,
+                            at .is,
+                            kept-before v (omega arith),
+                            pick-no (getD counts i 0) (ne-eqb p v (λ q. d (sym q))),
+                          );
                       small = omega (arith, at .small);
                     })
               ])

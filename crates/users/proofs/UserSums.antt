@@ -22,7 +22,8 @@ module _ (n : Network) where
   vertex j = getD (members n) j 0
 
   -- at a member's vertex, the vertex of its number
-  at-number : (x : ℕ → ℕ) (v : ℕ) → In (n .arcs) v → pick (n .member v) (x (vertex (number n v))) ≡ pick (n .member v) (x v)
+  at-number : (x : ℕ → ℕ) (v : ℕ) → In (n .arcs) v
+      → pick (n .member v) (x (vertex (number n v))) ≡ pick (n .member v) (x v)
   at-number x v i = pick-same (n .member v) (λ m. ap x (member-at (n .member) (n .arcs) v i m))
 
   pub over-members : (x : ℕ → ℕ)
@@ -34,7 +35,8 @@ module _ (n : Network) where
       → sum₀ (memberCount n) (λ j. pick (users n k j) (x (vertex j))) ≡ sumBelow n (λ v. pick (n .member v) (x v)) k
   unfolding sumBelow
   over-users x k =
-      users-by-vertex n (λ j. x (vertex j)) k ∙ sum-cong (n .arcs) (λ v i. ap (pick (atOrBelow n k v)) (at-number x v i))
+      users-by-vertex n (λ j. x (vertex j)) k
+      ∙ sum-cong (n .arcs) (λ v i. ap (pick (atOrBelow n k v)) (at-number x v i))
 
   abbrev ones : ℕ → ℕ
   ones v = pick (n .member v) 1
@@ -47,11 +49,14 @@ module _ (n : Network) where
     -- the member itself and the users of the child arcs
     pub count-children : (v : ℕ) → In (n .arcs) v → userCount n v ≡ ones v + children n (userCount n) v
     count-children v i =
-        subst (λ (c : ℕ → ℕ). c v ≡ ones v + children n c v) (sym (fun-ext users-count)) (sum-below-children n rooted ones v i)
+        subst (λ (c : ℕ → ℕ). c v ≡ ones v + children n c v) (sym (fun-ext users-count))
+        (sum-below-children n rooted ones v i)
 
     -- the members are the users of the arcs that leave the source
     pub count-from-source : memberCount n ≡ children n (userCount n) 0
-    count-from-source = subst (λ (c : ℕ → ℕ). memberCount n ≡ children n c 0) (sym (fun-ext users-count)) (sum-from-source n rooted ones)
+    count-from-source =
+        subst (λ (c : ℕ → ℕ). memberCount n ≡ children n c 0) (sym (fun-ext users-count))
+        (sum-from-source n rooted ones)
 
     pub count-own : MembersEnd n → (v : ℕ) → In (n .arcs) v → n .member v ≡ true → userCount n v ≡ 1
     count-own ends v i m = users-count v ∙ own-sum n rooted ends ones v i m ∙ pick-yes 1 m

@@ -62,14 +62,22 @@ module _ (n : Network) (start : ℕ → ℕ) where
           let end : start v + userCount n v ≡ suc (start v) = omega (arith, count-own n rooted ends v i m) in
           rw end (omega (arith, own-sum n rooted ends gs v i m, pick-yes (g (start v)) m)))
           (λ (m : n .member v ≡ false).
-          let end : start v + userCount n v ≡ start v + taken v (n .arcs) = omega (arith, count-children n rooted v i, pick-no 1 m) in
-          rw end (omega (arith, sum-below-children n rooted gs v i, pick-no (g (start v)) m, in-line v filled (n .arcs) (omega arith))))
+          let end : start v + userCount n v
+          ≡ start v + taken v (n .arcs) = omega (arith, count-children n rooted v i, pick-no 1 m) in
+          rw end
+          (omega (
+            arith,
+            sum-below-children n rooted gs v i,
+            pick-no (g (start v)) m,
+            in-line v filled (n .arcs) (omega arith),
+          )))
           (both (n .member v))
 
       -- d bounds how far the arcs' numbers go on after v
       filled-within : (d v : ℕ) → In (n .arcs) v → n .arcs ≤ v + d → Filled g v
       filled-within zero v i h = filled-at v i (λ c j e. absurd (omega (arith, child-after n rooted v c j e)))
-      filled-within (suc d) v i h = filled-at v i (λ c j e. filled-within d c j (omega (arith, child-after n rooted v c j e)))
+      filled-within (suc d) v i h =
+          filled-at v i (λ c j e. filled-within d c j (omega (arith, child-after n rooted v c j e)))
 
       pub arc-filled : (v : ℕ) → In (n .arcs) v → Filled g v
       arc-filled v i = filled-within (n .arcs) v i (omega arith)
@@ -77,7 +85,8 @@ module _ (n : Network) (start : ℕ → ℕ) where
       -- the places of all members are those below their number
       pub all-filled : sum (n .arcs) (λ v. pick (n .member v) (g (start v))) ≡ before g (memberCount n)
       all-filled =
-          let end : start 0 + taken 0 (n .arcs) ≡ memberCount n = omega (arith, begins .source, count-from-source n rooted) in
+          let end : start 0 + taken 0 (n .arcs)
+          ≡ memberCount n = omega (arith, begins .source, count-from-source n rooted) in
           omega (
             arith,
             sum-from-source n rooted (λ u. pick (n .member u) (g (start u))),
@@ -87,7 +96,8 @@ module _ (n : Network) (start : ℕ → ℕ) where
           )
 
     -- the users of arc i + 1 are among those of the arcs that leave its parent
-    inside : (i : ℕ) → suc i ≤ n .arcs → start (suc i) + userCount n (suc i) ≤ start (n .parent (suc i)) + taken (n .parent (suc i)) (n .arcs)
+    inside : (i : ℕ) → suc i ≤ n .arcs
+        → start (suc i) + userCount n (suc i) ≤ start (n .parent (suc i)) + taken (n .parent (suc i)) (n .arcs)
     inside i h =
         let p = n .parent (suc i) in
         omega (
@@ -101,8 +111,10 @@ module _ (n : Network) (start : ℕ → ℕ) where
     leaving-within =
         from-source n rooted (λ v. v ≤ n .arcs → start v + taken v (n .arcs) ≤ memberCount n)
         (λ h. omega (arith, begins .source, count-from-source n rooted))
-        (λ v ih h. omega (arith, ih (omega (arith, rooted v)), inside v h, count-children n rooted (suc v) (omega arith)))
+        (λ v ih h. omega
+        (arith, ih (omega (arith, rooted v)), inside v h, count-children n rooted (suc v) (omega arith)))
 
     pub arc-within : (v : ℕ) → In (n .arcs) v → start v + userCount n v ≤ memberCount n
     arc-within zero i = absurd (omega arith)
-    arc-within (suc v) i = omega (arith, inside v (i .high), leaving-within (n .parent (suc v)) (omega (arith, rooted v)))
+    arc-within (suc v) i =
+        omega (arith, inside v (i .high), leaving-within (n .parent (suc v)) (omega (arith, rooted v)))

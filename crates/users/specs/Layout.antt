@@ -17,7 +17,8 @@ pub record Counts (arcs : ℕ) (counts : List ℕ) : Type 0 where
 abbrev pub leaving : (ℕ → ℕ) → (ℕ → ℕ) → ℕ → ℕ → ℕ
 leaving parent x p i = sum i (λ u. pick (eqb (parent u) p) (x u))
 
--- the users of each of the arcs 1 to m begin where its parent's begin, after those of the parent's child arcs with a smaller number
+-- the users of each of the arcs 1 to m begin where its parent's begin, after those of the parent's child arcs with a
+-- smaller number
 pub record Begins (m : ℕ) (parent count start : ℕ → ℕ) : Type 0 where
   pub source : start 0 ≡ 0
   pub after : (i : ℕ) → i < m → start (suc i) ≡ start (parent (suc i)) + leaving parent count (parent (suc i)) i

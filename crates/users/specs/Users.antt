@@ -17,7 +17,8 @@ total g (u ∷ us) = g u + total g us
 pub record Lists (n : Network) (k : ℕ) (us : List ℕ) : Type 0 where
   pub sums : (g : ℕ → ℕ) → total g us ≡ sum₀ (memberCount n) (λ j. pick (users n k j) (g j))
 
--- `order` has one entry a member, the others one entry an arc; the users of arc k are the `counts` entry of k many numbers in `order` from the `starts` entry of k on
+-- `order` has one entry a member, the others one entry an arc; the users of arc k are the `counts` entry of k many
+-- numbers in `order` from the `starts` entry of k on
 pub record LaidOut (n : Network) (starts counts order : List ℕ) : Type 0 where
   pub starts-sized : length starts ≡ n .arcs
   pub counts-sized : length counts ≡ n .arcs
