@@ -16,7 +16,7 @@ if [ ! -f "$archive" ] || [ -n "$(find crates -name '*.rt' -newer "$archive")" ]
     bash build.sh
 fi
 echo "Building the benchmark, then timing it." >&2
-bash outside/build.sh "$archive" "$out/bench" bench/src/main.rs
+bash tests/comparison/build.sh "$archive" "$out/bench" bench/src/main.rs
 {
     processor=$(sed -n '/^model name/{s/^[^:]*: *//p;q}' /proc/cpuinfo)
     printf '\nMeasured on %s, Linux %s, with %s.\n\n' "$processor" "$(uname -m)" "$(rustc --version)"

@@ -1,4 +1,4 @@
-/* Audits and splits document 01's tree T. */
+/* Audits and splits the tree T of docs/SPECIFICATION.md, §10. */
 #include "zilqodur.h"
 
 #include <inttypes.h>

@@ -1,4 +1,4 @@
-// Audits and splits document 01's tree T. The declarations are those of include/zilqodur.h.
+// Audits and splits the tree T of docs/SPECIFICATION.md, §10. The declarations are those of include/zilqodur.h.
 
 #[repr(C)]
 struct ZilqodurMembers {

@@ -11,19 +11,19 @@
 mod best;
 mod entries;
 #[allow(dead_code)]
-#[path = "../../outside/src/ffi.rs"]
+#[path = "../../tests/comparison/src/ffi.rs"]
 mod ffi;
 #[allow(dead_code)]
-#[path = "../../outside/src/job.rs"]
+#[path = "../../tests/comparison/src/job.rs"]
 mod job;
 mod measure;
 mod networks;
 mod page;
 #[allow(dead_code)]
-#[path = "../../outside/src/reference.rs"]
+#[path = "../../tests/comparison/src/reference.rs"]
 mod reference;
 #[allow(dead_code)]
-#[path = "../../outside/src/rng.rs"]
+#[path = "../../tests/comparison/src/rng.rs"]
 mod rng;
 mod same;
 

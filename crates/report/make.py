@@ -1,5 +1,5 @@
 #!/usr/bin/env python3
-"""Writes document 01's sample job, `stdin`, and the report on it, `stdout`.
+"""Writes the sample job, `stdin`, and the report on it, `stdout`.
 
 The files go into the folder that is named, or else beside this script.
 """

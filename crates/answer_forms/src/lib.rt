@@ -5,7 +5,7 @@ ghost use mathlib.Core.Path.{_≡_};
 ghost use Rattle.answer_forms.specs.Answer.{refused};
 ghost use Rattle.answer_forms.specs.Checked.{checkOf, refusalOf};
 
-// A refusal: document 01's number, and the place where the fault stands.
+// A refusal: its number, and the place where the fault stands.
 pub struct Refusal {
     pub number: u32,
     pub place: usize,

@@ -30,7 +30,7 @@ pub record ByArcLaws (t : Tree) (out : List ℕ) : Type 0 where
   pub near : (j : ℕ) → j < memberCount (network t)
       → Within (membersFactorial t * pathLength (network t) j) (membersFactorial t * getD (byArcList t out) j 0)
       (shapley (network t) j)
-  -- Theorem 1 of the source: the Shapley value divides each arc's cost equally among its users
+  -- Theorem 1 of the paper: the Shapley value divides each arc's cost equally among its users
   pub theorem-1 : (j : ℕ) → j < memberCount (network t)
       → shapley (network t) j
       ≡ sum (network t .arcs)

@@ -1,4 +1,4 @@
--- The checks on lists as they are handed in, with document 01's numbers and places.
+-- The checks on lists as they are handed in, with the specification's numbers and places (§7).
 use Prim.Native.Nat.{ℕ, zero, suc, _+_, _-_}
 use mathlib.Core.Bool.{Bool, _||_, not}
 use mathlib.Core.List.{List, [], _∷_}

@@ -33,7 +33,7 @@ pub record LowerInRun (t : Tree) (p k : ℕ) : Type 0 where
   pub not-top : RunTop t k → ⊥
 
 pub record CoreLaws (t : Tree) : Type 0 where
-  -- the source's bound is the sum of the costs of the arcs that only the arc's users use
+  -- the paper's bound is the sum of the costs of the arcs that only the arc's users use
   pub bound-is-only-theirs : (k : ℕ) → ArcOf t k → bound (network t) k ≡ pos (onlyTheirs (network t) k)
   -- the need is never above it, and equals it at the top of an unbranched run
   pub need-at-most-bound : (k : ℕ) → ArcOf t k → pos (need (network t) k) ≤ℤ bound (network t) k
@@ -45,7 +45,7 @@ pub record CoreLaws (t : Tree) : Type 0 where
   pub run-need-is-bound : (p k : ℕ) → LowerInRun t p k
       → (pos (need (network t) k) ≡ bound (network t) k)
       ↔ ((ofArc (t .costs) p ≡ 0) × (pos (need (network t) p) ≡ bound (network t) p))
-  -- Theorem 2 of the source: the core over all groups is described by the bounds of the arcs
+  -- Theorem 2 of the paper: the core over all groups is described by the bounds of the arcs
   pub core-by-bound : (shares : List ℤ) → Core (network t) shares ↔ CoreByBound (network t) shares
   -- and by their needs
   pub core-by-need : (shares : List ℤ) → Core (network t) shares ↔ CoreByNeed (network t) shares

@@ -51,7 +51,7 @@ pub record GameLaws (t : Tree) : Type 0 where
   pub none-cost-nothing : costOf t (λ j. false) ≡ 0
   -- a larger group never costs less
   pub larger-costs-no-less : (g h : ℕ → Bool) → PartOf g h → costOf t g ≤ costOf t h
-  -- inequality (2) of the source, with the two costs that it takes away added on the other side:
+  -- inequality (2) of the paper, with the two costs that it takes away added on the other side:
   -- what member i adds to a group is at least what it adds to a larger one
   pub submodular : (i : ℕ) (g h : ℕ → Bool) → g i ≡ true → PartOf g h
       → costOf t h + costOf t (without i g) ≤ costOf t g + costOf t (without i h)

@@ -1,4 +1,4 @@
--- Document 01's starred examples, as one statement about the answers and lists of the entries.
+-- The specification's networks to try (§10), as one statement about the answers and lists of the entries.
 use Prim.Native.Nat.{ℕ}
 use mathlib.Core.Path.{_≡_}
 use mathlib.Core.List.{List, [], _∷_}
@@ -13,15 +13,15 @@ use Rattle.answers.specs.Audit.{wrongTotal, objection, pass, auditAnswer
 use Rattle.answers.specs.Level.{split, refusal, levelAnswer, levelList}
 use Rattle.answers.specs.ByArc.{byArcAnswer, byArcList}
 
--- document 01's tree T
+-- the tree T of the specification, §10
 abbrev pub T : Tree
 T = record { parents = 0 ∷ 1 ∷ 1 ∷ 0 ∷ []; costs = 6 ∷ 1 ∷ 5 ∷ 4 ∷ [] }
 
--- document 01's tree U
+-- the tree U
 abbrev pub U : Tree
 U = record { parents = 0 ∷ 1 ∷ 1 ∷ []; costs = 7 ∷ 0 ∷ 0 ∷ [] }
 
--- document 01's tree W
+-- the tree W
 abbrev pub W : Tree
 W = record { parents = 0 ∷ 1 ∷ 1 ∷ 0 ∷ []; costs = 10 ∷ 1 ∷ 1 ∷ 8 ∷ [] }
 
@@ -65,6 +65,6 @@ pub record Table : Type 0 where
   pub T-by-arc-list : byArcList T (lent 3) ≡ 4 ∷ 8 ∷ 4 ∷ []
   pub U-by-arc : byArcAnswer U (lent 2) ≡ value 2
   pub U-by-arc-list : byArcList U (lent 2) ≡ 4 ∷ 3 ∷ []
-  -- beyond document 01's rows: every arc is short, and a rest of 1 between two users
+  -- beyond the specification's rows: every arc is short, and a rest of 1 between two users
   pub T-level-0 : levelAnswer T (0 ∷ 0 ∷ 0 ∷ []) (lent 3) ≡ refusal 9 4 4
   pub U-level-100-list : levelList U (100 ∷ 100 ∷ []) (lent 2) ≡ 4 ∷ 3 ∷ []

@@ -1,4 +1,4 @@
--- The source's bound of an arc: the costs of the arcs that only the arc's users use; never below the need, and when
+-- The paper's bound of an arc: the costs of the arcs that only the arc's users use; never below the need, and when
 -- it is the need.
 use Prim.Native.Nat.{ℕ, zero, suc, _≤_}
 use mathlib.Core.Path.{_≡_, sym, ap, _∙_, subst}

@@ -1,4 +1,4 @@
--- The core theorem: the lists of the core are those that add up and give every arc's users the source's bound, or the
+-- The core theorem: the lists of the core are those that add up and give every arc's users the paper's bound, or the
 -- need.
 use Prim.Native.Nat.{ℕ, _+_, _-_, _≤_, _<_}
 use mathlib.Core.Path.{_≡_, sym, ap, _∙_}

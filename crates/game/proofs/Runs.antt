@@ -1,4 +1,4 @@
--- The need and the source's bound along an unbranched run.
+-- The need and the paper's bound along an unbranched run.
 use Prim.Native.Nat.{ℕ, _+_}
 use mathlib.Core.Path.{_≡_, refl, sym, ap, _∙_}
 use mathlib.Core.Bool.{true, false, not, _||_}

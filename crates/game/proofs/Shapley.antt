@@ -1,4 +1,4 @@
--- Theorem 1 of the source: the Shapley value divides each arc's cost equally among its users.
+-- Theorem 1 of the paper: the Shapley value divides each arc's cost equally among its users.
 use Prim.Native.Nat.{ℕ, _+_, _*_, _/_, _<_}
 use mathlib.Core.Path.{_≡_, refl, sym, ap, _∙_}
 use mathlib.Core.Bool.{Bool, true, false, not, _||_, false≢true}

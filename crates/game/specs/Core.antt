@@ -18,7 +18,7 @@ users n k j = atOrBelow n k (getD (members n) j 0)
 abbrev pub others : Network → ℕ → ℕ → Bool
 others n k j = not (users n k j)
 
--- the source's bound of an arc: the whole cost less the cost of the members that do not use it
+-- the paper's bound of an arc: the whole cost less the cost of the members that do not use it
 abbrev pub bound : Network → ℕ → ℤ
 bound n k = pos (wholeCost n) -ℤ pos (groupCost n (byNumber n (others n k)))
 

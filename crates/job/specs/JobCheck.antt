@@ -1,4 +1,4 @@
--- The checks on a job's bytes, with document 01's numbers and places and in its order.
+-- The checks on a job's bytes, with the numbers, places and order of the specification, §7.
 use Prim.Native.Nat.{ℕ}
 use mathlib.Core.Bool.{not}
 use mathlib.Core.List.{List}

@@ -29,7 +29,7 @@ trailer arcs-at members-at arcs members version =
     ++ inBytes 2 version
     ++ (84 ∷ 74 ∷ [])
 
--- document 01's tree T
+-- the tree T of the specification, §10
 abbrev pub T-arcs : List ℕ
 T-arcs = arcRow 0 0 6 ++ arcRow 1 0 1 ++ arcRow 1 0 5 ++ arcRow 0 0 4
 

@@ -1,4 +1,4 @@
--- The form of a job's bytes: 11 to 14, with document 01's numbers and places.
+-- The form of a job's bytes: 11 to 14, with the specification's numbers and places (§7).
 use Prim.Native.Nat.{ℕ, zero, suc, _+_, _*_}
 use mathlib.Core.Bool.{_||_, not}
 use mathlib.Core.List.{List}

@@ -1,4 +1,4 @@
--- Document 01's limits.
+-- The limits (docs/SPECIFICATION.md, §1, §4, §5).
 use Prim.Native.Nat.{ℕ}
 
 -- the most arcs of a tree, and so the most members

@@ -1,4 +1,4 @@
-// Document 01's limits, as specs/Limits.antt has them.
+// The limits of the specification, as specs/Limits.antt has them.
 pub const MOST_ARCS: usize = 1023;
 
 pub const GROUP_BITS: usize = 1024;

@@ -1,4 +1,4 @@
--- Document 01's report, and that on a refused job.
+-- The sample report (specification, §9 and §10), and that on a refused job.
 use mathlib.Core.Path.{_≡_}
 use mathlib.Core.List.{_++_}
 use Rattle.text.specs.Ascii.{ascii}
@@ -6,7 +6,7 @@ use Rattle.job.specs.Table.{T-job, fewer-job}
 use Rattle.report_text.specs.Report.{reportText}
 
 pub record ReportTable : Type 0 where
-  -- document 01's example
+  -- the sample job's
   pub T-report :
       reportText T-job
       ≡ ascii "cost 16 members 3\n"

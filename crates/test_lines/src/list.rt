@@ -1,0 +1,90 @@
+// Reading lists of numbers: decimal, a comma between two, and "-" for no entries. A signed number is read by its bits.
+use crate::number;
+use crate::width;
+ghost use Prim.Native.Nat.{_≤_};
+ghost use lib.ListN.{length};
+ghost use Rattle.test_lines.specs.Lists.{Front, MOST};
+
+// The most entries of a list.
+pub const MOST: usize = 1100;
+
+// How many entries a list has; 0 where it cannot be read.
+pub struct Entries {
+    pub readable: bool,
+    pub count: usize,
+}
+
+const UNREADABLE: Entries = Entries {
+    readable: false,
+    count: 0,
+};
+
+// Where a list's first entry starts: past the end where it has none.
+fn first_entry(s: &[u8]) -> usize {
+    if check::same(s, b"-") { 2 } else { 0 }
+}
+
+// A list of numbers, or of signed ones' bits, up to most, into the front of out.
+fn read_entries(s: &[u8], signed: bool, most: u64, out: &mut [u64]) -> Entries
+    ensures { λ r. ⌜ Front (r .count) most (now (out .exit)) ⌝ }
+{
+    let mut n = 0;
+    let mut at = first_entry(s);
+    while at <= s.len() {
+        let end = bytes::scan::find(s, at, s.len(), b',');
+        let entry = number::entry(&s[at..end], signed, most);
+        if !entry.readable {
+            return UNREADABLE;
+        }
+        if out.len() <= n {
+            return UNREADABLE;
+        }
+        out[n] = entry.value;
+        n += 1;
+        at = end + 1;
+    }
+    Entries {
+        readable: true,
+        count: n,
+    }
+}
+
+// A list of numbers up to most, into the front of out.
+pub fn read(s: &[u8], most: u64, out: &mut [u64]) -> Entries
+    ensures { λ r. ⌜ Front (r .count) most (now (out .exit)) ⌝ }
+{
+    read_entries(s, false, most, out)
+}
+
+// A list of 16-bit numbers, into the front of out.
+pub fn read16(s: &[u8], out: &mut [u16]) -> Entries
+    requires { ⌜ MOST ≤ length (now out) ⌝ }
+    ensures { λ r. ⌜ r .count ≤ MOST ⌝ }
+{
+    let mut wide = [0u64; MOST];
+    let found = read(s, u16::MAX as u64, &mut wide);
+    width::narrow16(&wide, found.count, out);
+    found
+}
+
+// A list of 32-bit numbers, into the front of out.
+pub fn read32(s: &[u8], out: &mut [u32]) -> Entries
+    requires { ⌜ MOST ≤ length (now out) ⌝ }
+    ensures { λ r. ⌜ r .count ≤ MOST ⌝ }
+{
+    let mut wide = [0u64; MOST];
+    let found = read(s, u32::MAX as u64, &mut wide);
+    width::narrow32(&wide, found.count, out);
+    found
+}
+
+// A list of signed 64-bit numbers, into the front of out.
+pub fn read_signed(s: &[u8], out: &mut [i64]) -> Entries
+    requires { ⌜ MOST ≤ length (now out) ⌝ }
+    ensures { λ r. ⌜ r .count ≤ MOST ⌝ }
+{
+    let mut bits = [0u64; MOST];
+    let found = read_entries(s, true, u64::MAX, &mut bits);
+    width::to_signed(&bits, found.count, out);
+    found
+}

@@ -1,0 +1,177 @@
+#!/usr/bin/env python3
+"""Writes the cases of this program, `stdin`, and the lines that it must print, `stdout`.
+
+The answers are worked out in `script`, straight from docs/SPECIFICATION.md and with no call of the engine. The files go into the folder
+that is named, or else beside this script.
+"""
+import sys
+from pathlib import Path
+
+sys.dont_write_bytecode = True
+sys.path.insert(0, str(Path(__file__).resolve().parent / "script"))
+
+from rules import MOST_COST, WORDS, words_of
+from entries import answer, question
+from networks import T, U, W, chain
+from trees import group_bits, large_trees, limits, random_trees, refusal_order, small_networks
+from audits import (
+    deep_audits,
+    full_audits,
+    random_audits,
+    share_limits,
+    share_refusals,
+    small_audits,
+    ties,
+    traps,
+)
+from levels import (
+    cap_limits,
+    cap_refusals,
+    large_costs,
+    level_ties,
+    random_levels,
+    several_short,
+    small_levels,
+    worst_levels,
+)
+from divisions import division_refusals, large_divisions, leftovers, random_divisions
+from jobs import (
+    form_order,
+    full_jobs,
+    gaps,
+    job,
+    job_lengths,
+    job_notes,
+    job_signature,
+    job_values,
+    lent_lengths,
+    many_arcs,
+    offsets,
+    plain,
+    random_jobs,
+    read,
+    value_order,
+)
+from unreadable import UNREADABLE
+
+
+def beside_words(line, first=0):
+    return f"{line}: {first}" + ",0" * (WORDS - 1)
+
+
+T_BYTES = bytes.fromhex(
+    "0000000006000000 0100000001000000 0100000005000000 0000000004000000"
+    "6400000000000000 0800000000000000 6400000000000000 0400000000000000 6400000000000000 0400000000000000"
+    "00000000 20000000 0400 0300 0100 54 4A"
+)
+
+LARGE = MOST_COST + 1
+
+# the specification's networks to try (§10), with their answers by hand
+STATED = [
+    (("members", *T, 3), "members 3: 2,3,4"),
+    (("needs", *T, 4), "whole 16 members 3: 12,1,5,4"),
+    (("group", *T, words_of([])), "size 0 cost 0"),
+    (("group", *T, words_of([0])), "size 1 cost 7"),
+    (("group", *T, words_of([0, 1])), "size 2 cost 12"),
+    (("group", *T, words_of([1, 2])), "size 2 cost 15"),
+    (("check", [0], [MOST_COST]), "accepted"),
+    (("check", [0], [MOST_COST + 1]), "refused 4 at 1"),
+    (("check", [1], [5]), "refused 3 at 1"),
+    (("check", chain(1023), [1] * 1023), "accepted"),
+    (("check", chain(1024), [1] * 1024), "refused 1 at 0"),
+    (("group", *T, words_of([2])), "size 1 cost 4"),
+    (("group", *T, words_of([3])), "refused 5 at 3"),
+    (("audit", *T, [7, 5, 4]), beside_words("pass")),
+    (("audit", *T, [8, 4, 4]), beside_words("group 1 of 1", 1)),
+    (("audit", *T, [8, 4, 5]), beside_words("total 1")),
+    (("audit", *T, [-1, 13, 4]), beside_words("group 2 of 1", 2)),
+    (("audit", *T, [6, 5, 5]), beside_words("group 1 of 1", 4)),
+    (("audit", *W, [7, 7, 6]), beside_words("group 2 of 2", 3)),
+    (("level", *T, [100, 100, 100], 3), "split 3: 6,6,4"),
+    (("level", *T, [3, 9, 4], 3), "split 3: 3,9,4"),
+    (("level", *T, [3, 8, 100], 3), "refused 9 at 1 short 1: 9,9,9"),
+    (("level", *U, [3, 100], 2), "split 2: 3,4"),
+    (("byarc", *T, 3), "members 3: 4,8,4"),
+    (("byarc", *U, 2), "members 2: 4,3"),
+    (read(T_BYTES), "read 4 3 0: 0,1,1,0: 6,1,5,4: 100,100,100: 8,4,4; others kept"),
+    (read(plain([0], [7], note=b"ab")), "read 1 1 2: 0: 7: 100: -1; others kept"),
+    (read(T_BYTES, [1023, 1023, 1023, 1022]), "refused 10 at 0; others kept"),
+    (read(b""), "refused 11 at 0; others kept"),
+    (read(T_BYTES[:-1] + b"j"), "refused 12 at 0; others kept"),
+    (read(b"x" + T_BYTES), "refused 13 at 0; others kept"),
+    (read(plain(*T, fillers={3: 256})), "refused 14 at 3; others kept"),
+    (read(job([0] * 1024, [1] * 1024, [], [])), "refused 1 at 0; others kept"),
+    (read(job([0] * 1024, [1] * 1024, [], [], fillers={1024: 1})), "refused 14 at 1024; others kept"),
+    (read(job([], [], [], [])), "refused 1 at 0; others kept"),
+    (read(plain([0, 2], [LARGE, 1])), "refused 4 at 1; others kept"),
+    (read(plain([1], [LARGE])), "refused 3 at 1; others kept"),
+    (read(job(*T, [9, 9], [9, 9])), "refused 15 at 0; others kept"),
+    (read(job(*T, [9, 9, 2**64 - 1], [-(2**63), 9, 9])), "refused 7 at 2; others kept"),
+    (read(job(*T, [9, 9, 9], [9, -(2**63), 2**63 - 1])), "refused 7 at 1; others kept"),
+]
+
+PARTS = [
+    small_networks,
+    limits,
+    group_bits,
+    refusal_order,
+    random_trees,
+    large_trees,
+    small_audits,
+    ties,
+    traps,
+    share_limits,
+    share_refusals,
+    full_audits,
+    deep_audits,
+    random_audits,
+    small_levels,
+    level_ties,
+    several_short,
+    cap_limits,
+    cap_refusals,
+    large_costs,
+    worst_levels,
+    random_levels,
+    leftovers,
+    large_divisions,
+    division_refusals,
+    random_divisions,
+    job_notes,
+    full_jobs,
+    many_arcs,
+    job_lengths,
+    job_signature,
+    offsets,
+    gaps,
+    form_order,
+    value_order,
+    job_values,
+    lent_lengths,
+    random_jobs,
+]
+
+MOST_INPUT = 1 << 22
+
+
+def write(path, lines):
+    text = "".join(line + "\n" for line in lines)
+    path.write_text(text)
+    return len(text)
+
+
+def main(folder):
+    for case, stated in STATED:
+        assert answer(case) == stated, (case, answer(case))
+    cases = [case for case, _ in STATED]
+    for part in PARTS:
+        cases += part()
+    size = write(folder / "stdin", [question(case) for case in cases] + UNREADABLE)
+    write(folder / "stdout", [answer(case) for case in cases] + ["bad case"] * len(UNREADABLE))
+    assert size <= MOST_INPUT, size
+    print(f"{len(cases) + len(UNREADABLE)} cases, {size} bytes")
+
+
+if __name__ == "__main__":
+    main(Path(sys.argv[1]) if len(sys.argv) > 1 else Path(__file__).resolve().parent)

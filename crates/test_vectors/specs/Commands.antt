@@ -1,0 +1,34 @@
+-- The commands by their names, and the fields of their lines.
+use Prim.Native.Nat.{ℕ}
+use mathlib.Core.Path.{_≡_}
+use mathlib.Core.List.{List, [], _∷_}
+use lib.ListN.{getD, length}
+use Rattle.test_lines.specs.Fields.{First, fieldsOf}
+use Rattle.test_vectors.specs.declared.command.Command.{Command}
+use Rattle.test_vectors.specs.declared.command.Command.the-variants.{Check, Count, Members, Needs, Group, Audit}
+use Rattle.test_vectors.specs.declared.command.Command.the-variants.{Shares, Level, Caps, ByArc, Job, Unknown}
+
+-- the commands, in the order of their names
+abbrev pub commands : List Command
+commands = Check ∷ Count ∷ Members ∷ Needs ∷ Group ∷ Audit ∷ Shares ∷ Level ∷ Caps ∷ ByArc ∷ Job ∷ []
+
+-- how many fields a command's line has; none is right for an unknown command
+abbrev pub fieldCount : Command → ℕ
+fieldCount Check = 3
+fieldCount Count = 3
+fieldCount Members = 4
+fieldCount Needs = 4
+fieldCount Group = 4
+fieldCount Audit = 4
+fieldCount Shares = 3
+fieldCount Level = 5
+fieldCount Caps = 3
+fieldCount ByArc = 4
+fieldCount Job = 3
+fieldCount Unknown = 0
+
+-- c is the command at the name's place among the names of a line, or unknown where the name is none of them
+pub record Named (line name : List ℕ) (c : Command) : Type 0 where
+  pub place : ℕ
+  pub first : First (fieldsOf line) (length commands) name place
+  pub is : c ≡ getD commands place Unknown

@@ -1,0 +1,203 @@
+// One case: a command, a tree, and for some commands one field or two more; or a number of members and a list with an
+// entry each; or a job.
+use crate::command;
+use crate::command::Command;
+use crate::job_case;
+use crate::print;
+use test_lines::field;
+use test_lines::list;
+use test_lines::list::MOST;
+use test_lines::number;
+use test_lines::print::text;
+ghost use Prim.Native.Nat.{_≤_};
+ghost use lib.ListN.{length};
+ghost use Rattle.test_lines.specs.Lists.{MOST};
+
+// The words of a group.
+const WORDS: usize = 16;
+
+// The list is printed after a refusal too, which leaves it as it came.
+fn list_members(parents: &[u16], costs: &[u32], out: &mut [u16])
+    requires { ⌜ length (now out) ≤ MOST ⌝ }
+{
+    print::member_count(engine::list_members(parents, costs, out));
+    test_lines::print::list16(out);
+}
+
+// The last field is the output list's length; each of its entries is 9 before the call.
+fn members(parents: &[u16], costs: &[u32], length: &[u8]) {
+    let wanted = number::up_to(length, MOST as u64);
+    if !wanted.readable {
+        return print::bad_case();
+    }
+    let n = wanted.value as usize;
+    let mut out = [9u16; MOST];
+    list_members(parents, costs, &mut out[0..n]);
+}
+
+// As list_members.
+fn list_needs(parents: &[u16], costs: &[u32], out: &mut [u64]) {
+    print::needs_found(engine::list_needs(parents, costs, out));
+    test_lines::print::list(out);
+}
+
+// As members.
+fn needs(parents: &[u16], costs: &[u32], length: &[u8]) {
+    let wanted = number::up_to(length, MOST as u64);
+    if !wanted.readable {
+        return print::bad_case();
+    }
+    let n = wanted.value as usize;
+    let mut out = [9u64; MOST];
+    list_needs(parents, costs, &mut out[0..n]);
+}
+
+// As list_members.
+fn split_by_arc(parents: &[u16], costs: &[u32], out: &mut [u64]) {
+    print::member_count(engine::split_by_arc(parents, costs, out));
+    test_lines::print::list(out);
+}
+
+// As members.
+fn by_arc(parents: &[u16], costs: &[u32], length: &[u8]) {
+    let wanted = number::up_to(length, MOST as u64);
+    if !wanted.readable {
+        return print::bad_case();
+    }
+    let n = wanted.value as usize;
+    let mut out = [9u64; MOST];
+    split_by_arc(parents, costs, &mut out[0..n]);
+}
+
+fn group(parents: &[u16], costs: &[u32], words: &[u8]) {
+    let mut group = [0u64; WORDS];
+    let found = list::read(words, u64::MAX, &mut group);
+    if found.count != WORDS {
+        return print::bad_case();
+    }
+    print::group_cost(engine::group_cost(parents, costs, group));
+}
+
+fn audit(parents: &[u16], costs: &[u32], shares: &[u8]) {
+    let mut proposal = [0i64; MOST];
+    let found = list::read_signed(shares, &mut proposal);
+    if !found.readable {
+        return print::bad_case();
+    }
+    let n = found.count;
+    print::audited(engine::audit(parents, costs, &proposal[0..n]));
+}
+
+// As list_members.
+fn split_level(parents: &[u16], costs: &[u32], caps: &[u64], out: &mut [u64]) {
+    print::level_split(engine::split_level(parents, costs, caps, out));
+    test_lines::print::list(out);
+}
+
+// As members; the field before the length has the caps.
+fn level(parents: &[u16], costs: &[u32], entries: &[u8], length: &[u8]) {
+    let mut caps = [0u64; MOST];
+    let found = list::read(entries, u64::MAX, &mut caps);
+    let wanted = number::up_to(length, MOST as u64);
+    if !found.readable {
+        return print::bad_case();
+    }
+    if !wanted.readable {
+        return print::bad_case();
+    }
+    let k = found.count;
+    let n = wanted.value as usize;
+    let mut out = [9u64; MOST];
+    split_level(parents, costs, &caps[0..k], &mut out[0..n]);
+}
+
+// A field that the line does not have comes as no bytes.
+fn on_tree(c: Command, parents: &[u16], costs: &[u32], third: &[u8], fourth: &[u8]) {
+    match c {
+        Command::Check => print::checked(engine::check_tree(parents, costs)),
+        Command::Count => print::member_count(engine::count_members(parents, costs)),
+        Command::Members => members(parents, costs, third),
+        Command::Needs => needs(parents, costs, third),
+        Command::Group => group(parents, costs, third),
+        Command::Audit => audit(parents, costs, third),
+        Command::Level => level(parents, costs, third, fourth),
+        Command::ByArc => by_arc(parents, costs, third),
+        _ => print::bad_case(),
+    }
+}
+
+// Field 2 has the costs.
+fn with_costs(c: Command, line: &[u8], parents: &[u16]) {
+    let mut costs = [0u32; MOST];
+    let found = list::read32(field::nth(line, 2), &mut costs);
+    if !found.readable {
+        return print::bad_case();
+    }
+    let n = found.count;
+    on_tree(
+        c,
+        parents,
+        &costs[0..n],
+        field::nth(line, 3),
+        field::nth(line, 4),
+    );
+}
+
+// Field 1 has the parents.
+fn with_tree(c: Command, line: &[u8]) {
+    let mut parents = [0u16; MOST];
+    let found = list::read16(field::nth(line, 1), &mut parents);
+    if !found.readable {
+        return print::bad_case();
+    }
+    let m = found.count;
+    with_costs(c, line, &parents[0..m]);
+}
+
+// Field 1 is the number of members.
+fn shares(line: &[u8]) {
+    let members = number::up_to(field::nth(line, 1), MOST as u64);
+    let mut proposal = [0i64; MOST];
+    let found = list::read_signed(field::nth(line, 2), &mut proposal);
+    if !members.readable {
+        return print::bad_case();
+    }
+    if !found.readable {
+        return print::bad_case();
+    }
+    let n = found.count;
+    print::checked(engine::check_proposal(members.value as usize, &proposal[0..n]));
+}
+
+// As shares.
+fn caps(line: &[u8]) {
+    let members = number::up_to(field::nth(line, 1), MOST as u64);
+    let mut caps = [0u64; MOST];
+    let found = list::read(field::nth(line, 2), u64::MAX, &mut caps);
+    if !members.readable {
+        return print::bad_case();
+    }
+    if !found.readable {
+        return print::bad_case();
+    }
+    let n = found.count;
+    print::checked(engine::check_caps(members.value as usize, &caps[0..n]));
+}
+
+fn answer(line: &[u8]) {
+    let c = command::named(field::nth(line, 0));
+    if field::has(line, command::fields(c)) {
+        return print::bad_case();
+    }
+    match c {
+        Command::Shares => shares(line),
+        Command::Caps => caps(line),
+        Command::Job => job_case::run(line),
+        _ => with_tree(c, line),
+    }
+}
+
+pub fn run(line: &[u8]) {
+    answer(line);
+    text(b"\n");
+}

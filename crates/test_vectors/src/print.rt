@@ -1,0 +1,90 @@
+// Printing the engine's answers.
+use test_lines::print::labelled;
+use test_lines::print::labelled_signed;
+use test_lines::print::list;
+use test_lines::print::text;
+use engine::AuditFound;
+use engine::Audited;
+use engine::Checked;
+use engine::GroupCost;
+use engine::LevelSplit;
+use engine::MemberCount;
+use engine::NeedsFound;
+use engine::Refusal;
+
+pub fn bad_case() {
+    text(b"bad case");
+}
+
+pub fn refusal(r: Refusal) {
+    labelled(b"refused ", r.number as u64);
+    labelled(b" at ", r.place as u64);
+}
+
+pub fn checked(c: Checked) {
+    match c {
+        Checked::Accepted => text(b"accepted"),
+        Checked::Refused(r) => refusal(r),
+    }
+}
+
+pub fn member_count(c: MemberCount) {
+    match c {
+        MemberCount::Members(n) => labelled(b"members ", n as u64),
+        MemberCount::Refused(r) => refusal(r),
+    }
+}
+
+pub fn needs_found(f: NeedsFound) {
+    match f {
+        NeedsFound::Needs { whole, members } => {
+            labelled(b"whole ", whole);
+            labelled(b" members ", members as u64);
+        }
+        NeedsFound::Refused(r) => refusal(r),
+    }
+}
+
+pub fn group_cost(g: GroupCost) {
+    match g {
+        GroupCost::Cost { size, cost } => {
+            labelled(b"size ", size as u64);
+            labelled(b" cost ", cost);
+        }
+        GroupCost::Refused(r) => refusal(r),
+    }
+}
+
+fn audit_found(f: AuditFound) {
+    match f {
+        AuditFound::WrongTotal(difference) => labelled_signed(b"total ", difference),
+        AuditFound::Objection { amount, size } => {
+            labelled(b"group ", amount);
+            labelled(b" of ", size as u64);
+        }
+        AuditFound::Pass => text(b"pass"),
+        AuditFound::Refused(r) => refusal(r),
+    }
+}
+
+// The words are printed with every answer: they are 0 except in an objection.
+pub fn audited(a: Audited) {
+    let answer = a.answer;
+    let group = a.group;
+    audit_found(answer);
+    list(&group);
+}
+
+pub fn level_split(s: LevelSplit) {
+    match s {
+        LevelSplit::Split(n) => labelled(b"split ", n as u64),
+        LevelSplit::Refused {
+            number,
+            place,
+            shortfall,
+        } => {
+            refusal(Refusal { number, place });
+            labelled(b" short ", shortfall);
+        }
+    }
+}

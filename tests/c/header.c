@@ -1,0 +1,269 @@
+/* Calls every function of zilqodur.h on the tree T of the specification, and some on the largest star, and looks at every field, list and refusal.
+ * It is compiled as C99 and as C++11: where the header is not the archive's it does not compile, does not link, or names the lines that
+ * do not hold. */
+#include "zilqodur.h"
+
+#include <stdio.h>
+#include <string.h>
+
+#define ARCS 4
+#define MEMBERS 3
+#define JOB_BYTES 96
+
+static const uint16_t parents[ARCS] = {0, 1, 1, 0};
+static const uint32_t costs[ARCS] = {6, 1, 5, 4};
+static const uint16_t wrong_parents[ARCS] = {0, 2, 1, 0};
+static const uint32_t wrong_costs[ARCS] = {6, 1, 1000000001, 4};
+static int failures;
+
+#define EXPECT(holds) expect(holds, __LINE__)
+
+static void expect(int holds, int line) {
+    if (!holds) {
+        printf("tests/header.c:%d does not hold\n", line);
+        failures++;
+    }
+}
+
+/* A field has the value, and the width that the archive gives it, which is that of `wanted`. */
+#define IS(field, wanted) (sizeof(field) == sizeof(wanted) && (field) == (wanted))
+
+static int is_check(ZilqodurCheck found, uint32_t refusal, size_t place) {
+    return IS(found.refusal, refusal) && IS(found.place, place);
+}
+
+static int is_members(ZilqodurMembers found, uint32_t refusal, size_t place, size_t members) {
+    return IS(found.refusal, refusal) && IS(found.place, place) && IS(found.members, members);
+}
+
+static int is_needs(ZilqodurNeeds found, uint32_t refusal, size_t place, uint64_t whole, size_t members) {
+    return IS(found.refusal, refusal) && IS(found.place, place) && IS(found.whole, whole) && IS(found.members, members);
+}
+
+static int is_group(ZilqodurGroup found, uint32_t refusal, size_t place, size_t size, uint64_t cost) {
+    return IS(found.refusal, refusal) && IS(found.place, place) && IS(found.size, size) && IS(found.cost, cost);
+}
+
+/* The group has no other bits than those of one word. */
+static int is_audit(ZilqodurAudit found, uint32_t refusal, size_t place, uint32_t verdict, int64_t difference, uint64_t amount, size_t size,
+                    size_t word, uint64_t bits) {
+    uint64_t group[16] = {0};
+    group[word] = bits;
+    return IS(found.refusal, refusal) && IS(found.place, place) && IS(found.verdict, verdict) && IS(found.difference, difference) &&
+           IS(found.amount, amount) && IS(found.size, size) && sizeof found.group == sizeof group &&
+           memcmp(found.group, group, sizeof group) == 0;
+}
+
+static int is_level(ZilqodurLevel found, uint32_t refusal, size_t place, uint64_t shortfall, size_t members) {
+    return IS(found.refusal, refusal) && IS(found.place, place) && IS(found.shortfall, shortfall) && IS(found.members, members);
+}
+
+static int is_job(ZilqodurJob found, uint32_t refusal, size_t place, size_t arcs, size_t members, size_t note) {
+    return IS(found.refusal, refusal) && IS(found.place, place) && IS(found.arcs, arcs) && IS(found.members, members) &&
+           IS(found.note, note);
+}
+
+/* Two fields of a report are 0 in every one: where they stand tells them apart. */
+static int is_report(ZilqodurReport found, uint32_t refusal, size_t place, size_t length) {
+    return IS(found.refusal, refusal) && IS(found.place, place) && IS(found.length, length) && offsetof(ZilqodurReport, refusal) == 0 &&
+           offsetof(ZilqodurReport, place) == 8;
+}
+
+/* No struct is larger than the archive's. */
+static void sizes(void) {
+    EXPECT(sizeof(ZilqodurCheck) == 16 && sizeof(ZilqodurMembers) == 24 && sizeof(ZilqodurNeeds) == 32 && sizeof(ZilqodurGroup) == 32);
+    EXPECT(sizeof(ZilqodurAudit) == 176 && sizeof(ZilqodurLevel) == 32 && sizeof(ZilqodurJob) == 40 && sizeof(ZilqodurReport) == 24);
+}
+
+static int are(const uint64_t *list, uint64_t a, uint64_t b, uint64_t c) {
+    return list[0] == a && list[1] == b && list[2] == c;
+}
+
+static void trees(void) {
+    EXPECT(is_check(zilqodur_check_tree(parents, ARCS, costs, ARCS), ZILQODUR_NO_REFUSAL, 0));
+    EXPECT(is_check(zilqodur_check_tree(parents, 0, costs, ARCS), ZILQODUR_ARC_COUNT, 0));
+    EXPECT(is_check(zilqodur_check_tree(parents, ARCS, costs, ARCS - 1), ZILQODUR_TREE_LENGTHS, 0));
+    EXPECT(is_check(zilqodur_check_tree(wrong_parents, ARCS, costs, ARCS), ZILQODUR_PARENT, 2));
+    EXPECT(is_check(zilqodur_check_tree(parents, ARCS, wrong_costs, ARCS), ZILQODUR_COST, 3));
+}
+
+static void lists(void) {
+    static const uint64_t caps[MEMBERS] = {0, 2000000000000, 2000000000001};
+    static const int64_t proposal[MEMBERS] = {2000000000000, -2000000000000, -2000000000001};
+    EXPECT(is_check(zilqodur_check_caps(2, caps, 2), ZILQODUR_NO_REFUSAL, 0));
+    EXPECT(is_check(zilqodur_check_caps(2, caps, MEMBERS), ZILQODUR_LIST_LENGTH, 0));
+    EXPECT(is_check(zilqodur_check_caps(MEMBERS, caps, MEMBERS), ZILQODUR_LIST_RANGE, 2));
+    EXPECT(is_check(zilqodur_check_proposal(2, proposal, 2), ZILQODUR_NO_REFUSAL, 0));
+    EXPECT(is_check(zilqodur_check_proposal(MEMBERS, proposal, 2), ZILQODUR_LIST_LENGTH, 0));
+    EXPECT(is_check(zilqodur_check_proposal(MEMBERS, proposal, MEMBERS), ZILQODUR_LIST_RANGE, 2));
+}
+
+static void members(void) {
+    uint16_t out[MEMBERS] = {7, 7, 7};
+    EXPECT(is_members(zilqodur_count_members(parents, ARCS, costs, ARCS), ZILQODUR_NO_REFUSAL, 0, MEMBERS));
+    EXPECT(is_members(zilqodur_count_members(wrong_parents, ARCS, costs, ARCS), ZILQODUR_PARENT, 2, 0));
+    EXPECT(is_members(zilqodur_list_members(parents, ARCS, costs, ARCS, out, 2), ZILQODUR_OUTPUT_LENGTH, 0, 0));
+    EXPECT(out[0] == 7 && out[1] == 7 && out[2] == 7);
+    EXPECT(is_members(zilqodur_list_members(parents, ARCS, costs, ARCS, out, MEMBERS), ZILQODUR_NO_REFUSAL, 0, MEMBERS));
+    EXPECT(out[0] == 2 && out[1] == 3 && out[2] == 4);
+}
+
+static void needs(void) {
+    uint64_t out[ARCS] = {7, 7, 7, 7};
+    EXPECT(is_needs(zilqodur_list_needs(parents, ARCS, wrong_costs, ARCS, out, ARCS), ZILQODUR_COST, 3, 0, 0));
+    EXPECT(are(out, 7, 7, 7) && out[3] == 7);
+    EXPECT(is_needs(zilqodur_list_needs(parents, ARCS, costs, ARCS, out, ARCS), ZILQODUR_NO_REFUSAL, 0, 16, MEMBERS));
+    EXPECT(are(out, 12, 1, 5) && out[3] == 4);
+}
+
+static void groups(void) {
+    uint64_t group[16] = {6};
+    EXPECT(is_group(zilqodur_group_cost(parents, ARCS, costs, ARCS, group), ZILQODUR_NO_REFUSAL, 0, 2, 15));
+    group[0] = 8;
+    EXPECT(is_group(zilqodur_group_cost(parents, ARCS, costs, ARCS, group), ZILQODUR_GROUP_BIT, 3, 0, 0));
+}
+
+static void audits(void) {
+    static const int64_t fair[MEMBERS] = {7, 5, 4}, unfair[MEMBERS] = {3, 4, 9}, low[MEMBERS] = {7, 5, -30000000000};
+    static const int64_t outside[MEMBERS] = {7, 2000000000001, 4};
+    EXPECT(is_audit(zilqodur_audit(parents, ARCS, costs, ARCS, outside, MEMBERS), ZILQODUR_LIST_RANGE, 1,
+                    ZILQODUR_NO_VERDICT, 0, 0, 0, 0, 0));
+    EXPECT(is_audit(zilqodur_audit(parents, ARCS, costs, ARCS, fair, MEMBERS), 0, 0, ZILQODUR_PASS, 0, 0, 0, 0, 0));
+    EXPECT(is_audit(zilqodur_audit(parents, ARCS, costs, ARCS, low, MEMBERS), 0, 0, ZILQODUR_WRONG_TOTAL, -30000000004, 0, 0, 0, 0));
+    EXPECT(is_audit(zilqodur_audit(parents, ARCS, costs, ARCS, unfair, MEMBERS), 0, 0, ZILQODUR_OBJECTION, 0, 5, 1, 0, 4));
+}
+
+static void splits(void) {
+    static const uint64_t caps[MEMBERS] = {3, 9, 4}, low[MEMBERS] = {3, 6, 100};
+    uint64_t out[MEMBERS] = {7, 7, 7};
+    EXPECT(is_level(zilqodur_split_level(parents, ARCS, costs, ARCS, low, MEMBERS, out, MEMBERS), ZILQODUR_CAPS_SHORT, 1, 3, 0));
+    EXPECT(are(out, 7, 7, 7));
+    EXPECT(is_level(zilqodur_split_level(parents, ARCS, costs, ARCS, caps, MEMBERS, out, MEMBERS), ZILQODUR_NO_REFUSAL, 0, 0, MEMBERS));
+    EXPECT(are(out, 3, 9, 4));
+    EXPECT(is_members(zilqodur_split_by_arc(parents, ARCS, costs, ARCS, out, MEMBERS - 1), ZILQODUR_OUTPUT_LENGTH, 0, 0));
+    EXPECT(are(out, 3, 9, 4));
+    EXPECT(is_members(zilqodur_split_by_arc(parents, ARCS, costs, ARCS, out, MEMBERS), ZILQODUR_NO_REFUSAL, 0, MEMBERS));
+    EXPECT(are(out, 4, 8, 4));
+}
+
+static void put(uint8_t *at, uint64_t number, int width) {
+    int i;
+    for (i = 0; i < width; i++) {
+        at[i] = (uint8_t)(number >> (8 * i));
+    }
+}
+
+/* T with caps 100 and the proposal 8 4 4, after a note; answers the number of bytes. */
+static size_t write_job(uint8_t *job, size_t note) {
+    uint8_t *rows = job + note, *trailer = rows + 8 * ARCS + 16 * MEMBERS;
+    size_t i;
+    memset(job, 0, note + JOB_BYTES);
+    for (i = 0; i < ARCS; i++) {
+        put(rows + 8 * i, parents[i], 2);
+        put(rows + 8 * i + 4, costs[i], 4);
+    }
+    for (i = 0; i < MEMBERS; i++) {
+        put(rows + 8 * ARCS + 16 * i, 100, 8);
+        put(rows + 8 * ARCS + 16 * i + 8, i == 0 ? 8 : 4, 8);
+    }
+    put(trailer, note, 4);
+    put(trailer + 4, note + 8 * ARCS, 4);
+    put(trailer + 8, ARCS, 2);
+    put(trailer + 10, MEMBERS, 2);
+    put(trailer + 12, 1, 2);
+    trailer[14] = 0x54;
+    trailer[15] = 0x4A;
+    return note + JOB_BYTES;
+}
+
+static uint16_t job_parents[ZILQODUR_MOST_ARCS];
+static uint32_t job_costs[ZILQODUR_MOST_ARCS];
+static uint64_t job_caps[ZILQODUR_MOST_ARCS];
+static int64_t job_proposals[ZILQODUR_MOST_ARCS];
+
+/* The last list with the given number of entries. */
+static ZilqodurJob read_job(const uint8_t *job, size_t size, size_t proposals) {
+    return zilqodur_read_job(job, size, job_parents, ZILQODUR_MOST_ARCS, job_costs, ZILQODUR_MOST_ARCS, job_caps, ZILQODUR_MOST_ARCS,
+                             job_proposals, proposals);
+}
+
+static void jobs(void) {
+    uint8_t job[JOB_BYTES + 5];
+    size_t size = write_job(job, 5);
+    job_parents[ARCS] = 7, job_costs[ARCS] = 7, job_caps[MEMBERS] = 7, job_proposals[MEMBERS] = 7;
+    EXPECT(is_job(read_job(job, size, ZILQODUR_MOST_ARCS - 1), ZILQODUR_JOB_ROOM, 0, 0, 0, 0));
+    EXPECT(is_job(read_job(job, 15, ZILQODUR_MOST_ARCS), ZILQODUR_JOB_SIZE, 0, 0, 0, 0));
+    EXPECT(job_parents[1] == 0 && job_costs[0] == 0 && job_caps[0] == 0 && job_proposals[0] == 0);
+    EXPECT(is_job(read_job(job, size, ZILQODUR_MOST_ARCS), ZILQODUR_NO_REFUSAL, 0, ARCS, MEMBERS, 5));
+    EXPECT(memcmp(job_parents, parents, sizeof parents) == 0 && memcmp(job_costs, costs, sizeof costs) == 0);
+    EXPECT(are(job_caps, 100, 100, 100) && job_proposals[0] == 8 && job_proposals[1] == 4 && job_proposals[2] == 4);
+    EXPECT(job_parents[ARCS] == 7 && job_costs[ARCS] == 7 && job_caps[MEMBERS] == 7 && job_proposals[MEMBERS] == 7);
+}
+
+static void wrong_jobs(void) {
+    uint8_t job[JOB_BYTES];
+    size_t size = write_job(job, 0);
+    job[size - 1] = 0x4B;
+    EXPECT(is_job(read_job(job, size, ZILQODUR_MOST_ARCS), ZILQODUR_JOB_SIGNATURE, 0, 0, 0, 0));
+    write_job(job, 0);
+    put(job + size - 12, 8 * ARCS + 8, 4);
+    EXPECT(is_job(read_job(job, size, ZILQODUR_MOST_ARCS), ZILQODUR_JOB_LAYOUT, 0, 0, 0, 0));
+    write_job(job, 0);
+    put(job + 8 + 2, 1, 2);
+    EXPECT(is_job(read_job(job, size, ZILQODUR_MOST_ARCS), ZILQODUR_JOB_FILLER, 2, 0, 0, 0));
+    write_job(job, 0);
+    put(job + 8, 0, 2);
+    put(job + 16, 0, 2);
+    EXPECT(is_job(read_job(job, size, ZILQODUR_MOST_ARCS), ZILQODUR_JOB_MEMBERS, 0, 0, 0, 0));
+}
+
+static void reports(void) {
+    static const char text[] = "cost 16 members 3\naudit group 1 of 1: 0\nlevel ok\n0 at 2: proposed 8 by-arc 4 level 6\n"
+                               "1 at 3: proposed 4 by-arc 8 level 6\n2 at 4: proposed 4 by-arc 4 level 4\n";
+    static uint8_t out[ZILQODUR_REPORT_ROOM];
+    uint8_t job[JOB_BYTES];
+    size_t size = write_job(job, 0);
+    EXPECT(sizeof out == 196608);
+    memset(out, '#', sizeof out);
+    EXPECT(is_report(zilqodur_report(job, size, out), ZILQODUR_NO_REFUSAL, 0, sizeof text - 1));
+    EXPECT(memcmp(out, text, sizeof text - 1) == 0 && out[sizeof text - 1] == '#' && out[sizeof out - 1] == '#');
+}
+
+/* A star of arcs of the greatest cost: sums beyond 32 bits, and the last word of a group. */
+static void largest(void) {
+    static uint16_t star[ZILQODUR_MOST_ARCS + 1];
+    static uint32_t dear[ZILQODUR_MOST_ARCS + 1];
+    static int64_t proposal[ZILQODUR_MOST_ARCS];
+    static uint64_t out[ZILQODUR_MOST_ARCS];
+    const size_t m = ZILQODUR_MOST_ARCS;
+    uint64_t group[16] = {0};
+    size_t i;
+    for (i = 0; i < m; i++) {
+        dear[i] = 1000000000;
+        proposal[i] = 1000000000;
+        group[i / 64] |= UINT64_C(1) << (i % 64);
+    }
+    proposal[0] -= 900000000000;
+    proposal[m - 1] += 900000000000;
+    EXPECT(m == 1023);
+    EXPECT(is_check(zilqodur_check_tree(star, m + 1, dear, m + 1), ZILQODUR_ARC_COUNT, 0));
+    EXPECT(is_needs(zilqodur_list_needs(star, m, dear, m, out, m), ZILQODUR_NO_REFUSAL, 0, 1023000000000, m));
+    EXPECT(is_group(zilqodur_group_cost(star, m, dear, m, group), ZILQODUR_NO_REFUSAL, 0, m, 1023000000000));
+    EXPECT(is_audit(zilqodur_audit(star, m, dear, m, proposal, m), 0, 0, ZILQODUR_OBJECTION, 0, 900000000000, 1, 15, UINT64_C(1) << 62));
+}
+
+int main(void) {
+    sizes();
+    trees();
+    lists();
+    members();
+    needs();
+    groups();
+    audits();
+    splits();
+    jobs();
+    wrong_jobs();
+    reports();
+    largest();
+    return failures > 0;
+}

@@ -1,0 +1,98 @@
+//! The definitions of docs/SPECIFICATION.md word for word, for small networks: every group,
+//! every arc of every path, every unit.
+
+use crate::reference::Tree;
+
+/// Whether the arc lies on the way from the source to the vertex.
+fn on_path(tree: &Tree, arc: usize, mut vertex: usize) -> bool {
+    while vertex > arc {
+        vertex = tree.parent[vertex];
+    }
+    vertex == arc
+}
+
+fn is_user(tree: &Tree, arc: usize, member: usize) -> bool {
+    on_path(tree, arc, tree.members[member])
+}
+
+pub fn needs(tree: &Tree) -> Vec<u64> {
+    let all = || 1..=tree.arcs();
+    let below = |arc| all().filter(move |&other| on_path(tree, arc, other));
+    all()
+        .map(|arc| below(arc).map(|other| tree.cost[other]).sum())
+        .collect()
+}
+
+/// The members of a group that is given as the bits of a number.
+pub fn group(tree: &Tree, bits: usize) -> Vec<usize> {
+    (0..tree.members.len())
+        .filter(|j| bits >> j & 1 == 1)
+        .collect()
+}
+
+/// The arcs that each member uses, as the bits of a number.
+fn paths(tree: &Tree) -> Vec<u64> {
+    let path = |member| {
+        (1..=tree.arcs())
+            .filter(|&arc| is_user(tree, arc, member))
+            .fold(0, |bits, arc| bits | 1 << arc)
+    };
+    (0..tree.members.len()).map(path).collect()
+}
+
+/// The cost of every group, the group being the place in the list.
+pub fn group_costs(tree: &Tree) -> Vec<u64> {
+    let paths = paths(tree);
+    let cost = |bits: usize| {
+        let used = group(tree, bits).iter().fold(0, |all, &j| all | paths[j]);
+        (1..=tree.arcs())
+            .filter(|arc| used >> arc & 1 == 1)
+            .map(|arc| tree.cost[arc])
+            .sum()
+    };
+    (0..1 << tree.members.len()).map(cost).collect()
+}
+
+/// The greatest overpayment over all groups, and the groups with fewest
+/// members that reach it.
+pub fn greatest_overpayment(
+    tree: &Tree,
+    costs: &[u64],
+    proposal: &[i64],
+) -> (u64, Vec<Vec<usize>>) {
+    let paid = |bits: usize| -> i64 { group(tree, bits).iter().map(|&j| proposal[j]).sum() };
+    let over: Vec<i64> = (0..costs.len())
+        .map(|g| paid(g) - costs[g] as i64)
+        .collect();
+    let greatest = *over.iter().max().unwrap();
+    let reach = || (0..over.len()).filter(|&g| over[g] == greatest);
+    let fewest = reach().map(|g| g.count_ones()).min().unwrap();
+    let smallest = reach().filter(|g| g.count_ones() == fewest);
+    (greatest as u64, smallest.map(|g| group(tree, g)).collect())
+}
+
+/// The level split unit by unit; none where no user is below their cap.
+pub fn level(tree: &Tree, caps: &[u64]) -> Option<Vec<u64>> {
+    let mut shares = vec![0; tree.members.len()];
+    for arc in (1..=tree.arcs()).rev() {
+        for _ in 0..tree.cost[arc] {
+            let open = (0..shares.len()).filter(|&j| is_user(tree, arc, j) && shares[j] < caps[j]);
+            let member = open.min_by_key(|&j| (shares[j], j))?;
+            shares[member] += 1;
+        }
+    }
+    Some(shares)
+}
+
+/// The by-arc split unit by unit, the users of an arc taking turns.
+pub fn by_arc(tree: &Tree) -> Vec<u64> {
+    let mut shares = vec![0; tree.members.len()];
+    for arc in (1..=tree.arcs()).rev() {
+        let members = (0..shares.len()).filter(|&j| is_user(tree, arc, j));
+        let users: Vec<usize> = members.collect();
+        for unit in 0..tree.cost[arc] as usize {
+            shares[users[unit % users.len()]] += 1;
+        }
+    }
+    shares
+}

@@ -1,0 +1,214 @@
+//! Compares the archive with the reference on pseudo-random inputs from fixed
+//! seeds: comparison [PERCENT OF THE ROUNDS] [CANARIES ON EACH SIDE OF A LIST]
+
+mod brute;
+mod compare;
+mod compare_job;
+mod ffi;
+mod generate;
+mod generate_job;
+mod job;
+mod lent;
+mod reference;
+mod report;
+mod rng;
+mod table;
+mod tally;
+
+use compare::Network;
+use compare_job::JobLists;
+use reference::{Tree, ARCS};
+use rng::Rng;
+use std::sync::atomic::Ordering;
+use tally::Tally;
+
+/// Rounds on trees with a number of arcs from a range.
+struct Phase {
+    seed: u64,
+    rounds: u64,
+    fewest: usize,
+    most: usize,
+}
+
+#[rustfmt::skip]
+const PHASES: [Phase; 4] = [
+    Phase { seed: 0x1000_0000, rounds: 15_000, fewest: 1, most: 14 },
+    Phase { seed: 0x2000_0000, rounds: 4_000, fewest: 1, most: 90 },
+    Phase { seed: 0x3000_0000, rounds: 150, fewest: 91, most: ARCS },
+    Phase { seed: 0x4000_0000, rounds: 60, fewest: ARCS, most: ARCS },
+];
+
+fn main() {
+    let mut numbers = std::env::args()
+        .skip(1)
+        .map(|a| a.parse().expect("a number"));
+    let percent = numbers.next().unwrap_or(100);
+    if let Some(margin) = numbers.next() {
+        lent::MARGIN.store(margin as usize, Ordering::Relaxed);
+    }
+    let mut tally = Tally::default();
+    table::compare(&mut tally);
+    compare_longest(&mut tally);
+    for phase in PHASES {
+        for round in 0..(phase.rounds * percent).div_ceil(100) {
+            tally.seed = phase.seed + round;
+            let mut rng = Rng::new(tally.seed);
+            let arcs = phase.fewest + rng.below(phase.most - phase.fewest + 1);
+            compare_round(&mut tally, &mut rng, arcs);
+        }
+    }
+    let mut total = 0;
+    for (entry, refusals) in &tally.cases {
+        let count: u64 = refusals.values().sum();
+        let parts = refusals.iter().filter(|(&number, _)| number != 0);
+        let parts: String = parts.map(|(number, n)| format!(" {number}:{n}")).collect();
+        let refused = if parts.is_empty() { "" } else { ", refused" };
+        println!("{entry} {count}{refused}{parts}");
+        total += count;
+    }
+    println!("comparison: {total} cases, {} differences", tally.differences);
+    std::process::exit(i32::from(tally.differences > 0));
+}
+
+/// Every entry on one tree and on a damaged copy of it.
+fn compare_round(tally: &mut Tally, rng: &mut Rng, arcs: usize) {
+    let parents = generate::parents(rng, arcs);
+    let costs = generate::costs(rng, arcs);
+    let mut network = Network { parents, costs };
+    let tree = network.tree().expect("generated trees are accepted");
+    compare_tree(tally, rng, &network, &tree);
+    compare_lists(tally, rng, &network, &tree, 3);
+    compare_jobs(tally, rng, &network, &tree);
+    compare_definitions(tally, rng, &tree);
+    generate::damage_tree(rng, &mut network.parents, &mut network.costs);
+    compare_tree(tally, rng, &network, &tree);
+    compare_lists(tally, rng, &network, &tree, 1);
+}
+
+fn filled<T>(rng: &mut Rng, length: usize, entry: impl Fn(u64) -> T) -> Vec<T> {
+    (0..length).map(|_| entry(rng.next())).collect()
+}
+
+/// The entries that take a tree alone, the output lists of varied lengths.
+fn compare_tree(tally: &mut Tally, rng: &mut Rng, network: &Network, tree: &Tree) {
+    network.check_tree(tally);
+    network.count_members(tally);
+    let members = tree.members.len();
+    let length = generate::length(rng, members);
+    network.list_members(tally, &filled(rng, length, |n| n as u16));
+    let length = generate::length(rng, tree.arcs());
+    network.list_needs(tally, &filled(rng, length, |n| n));
+    let length = generate::length(rng, members);
+    network.split_by_arc(tally, &filled(rng, length, |n| n));
+}
+
+/// The entries that take a list or a group, on lists made for the tree.
+fn compare_lists(tally: &mut Tally, rng: &mut Rng, network: &Network, tree: &Tree, times: usize) {
+    let members = tree.members.len();
+    for _ in 0..times {
+        network.group_cost(tally, &generate::group(rng, members));
+        let mut proposal = generate::proposal(rng, tree);
+        network.audit(tally, &proposal);
+        compare::check_proposal(tally, members, &proposal);
+        generate::damage_proposal(rng, &mut proposal);
+        network.audit(tally, &proposal);
+        compare::check_proposal(tally, members, &proposal);
+        let mut caps = generate::caps(rng, tree);
+        let length = generate::length(rng, members);
+        let out = filled(rng, length, |n| n);
+        network.split_level(tally, &caps, &out);
+        compare::check_caps(tally, members, &caps);
+        generate::damage_caps(rng, &mut caps);
+        network.split_level(tally, &caps, &out);
+        compare::check_caps(tally, members, &caps);
+    }
+    let count = rng.pick(&[0, 1, 1_023, 1_024, 65_536 + members, usize::MAX]);
+    compare::check_caps(tally, count, &vec![0; members]);
+    compare::check_proposal(tally, count, &vec![0; members]);
+}
+
+/// The job reader and the report on a valid job, on damaged copies and on arbitrary bytes.
+fn compare_jobs(tally: &mut Tally, rng: &mut Rng, network: &Network, tree: &Tree) {
+    let valid = generate_job::valid(rng, &network.parents, &network.costs, tree);
+    compare_job(tally, rng, &valid.write());
+    let mut rows = valid.clone();
+    for _ in 0..1 + rng.below(2) {
+        generate_job::damage_rows(rng, &mut rows);
+    }
+    compare_job(tally, rng, &rows.write());
+    let mut bytes = if rng.one_in(4) {
+        rows.write()
+    } else {
+        valid.write()
+    };
+    generate_job::damage_bytes(rng, &mut bytes);
+    compare_job(tally, rng, &bytes);
+    let bytes = generate_job::arbitrary(rng);
+    compare_job(tally, rng, &bytes);
+}
+
+/// The job reader and the report on stars, at the greatest length and one row or byte past it.
+fn compare_longest(tally: &mut Tally) {
+    let mut rng = Rng::new(tally.seed);
+    for (arcs, note) in [(ARCS, 255), (ARCS, 256), (ARCS + 1, 0), (ARCS + 1, 231)] {
+        let job = job::Job {
+            note: vec![0xFF; note],
+            parents: vec![0; arcs],
+            fillers: vec![0; arcs],
+            costs: vec![reference::COST; arcs],
+            caps: vec![reference::AMOUNT; arcs],
+            proposals: vec![-(reference::AMOUNT as i64); arcs],
+        };
+        for _ in 0..20 {
+            compare_job(tally, &mut rng, &job.write());
+        }
+    }
+}
+
+fn compare_job(tally: &mut Tally, rng: &mut Rng, bytes: &[u8]) {
+    let [parents, costs, caps, proposals] = generate_job::lent_lengths(rng);
+    let lists = JobLists {
+        parents: filled(rng, parents, |n| n as u16),
+        costs: filled(rng, costs, |n| n as u32),
+        caps: filled(rng, caps, |n| n),
+        proposals: filled(rng, proposals, |n| n as i64),
+    };
+    compare_job::read_job(tally, bytes, lists);
+    compare_job::report(tally, bytes);
+}
+
+/// The reference against the definitions, where the network is small.
+fn compare_definitions(tally: &mut Tally, rng: &mut Rng, tree: &Tree) {
+    if tree.arcs() > 40 || tree.members.len() > 10 {
+        return;
+    }
+    let mut case = |name, agree| tally.case(name, 0, [agree, true], true);
+    case("definition of needs", brute::needs(tree) == tree.needs());
+    let costs = brute::group_costs(tree);
+    let right = |g: usize| tree.group_cost(&brute::group(tree, g)) == costs[g];
+    case("definition of group costs", (0..costs.len()).all(right));
+    for _ in 0..3 {
+        let proposal = generate::proposal(rng, tree);
+        let (amount, groups) = brute::greatest_overpayment(tree, &costs, &proposal);
+        let (greatest, smallest) = tree.greatest_overpayment(&proposal);
+        case(
+            "definition of the audit",
+            greatest == amount && groups == [smallest],
+        );
+    }
+    if tree.whole() > 2_000 {
+        return;
+    }
+    case(
+        "definition of the by-arc split",
+        brute::by_arc(tree) == tree.by_arc(),
+    );
+    for _ in 0..3 {
+        let caps = generate::caps(rng, tree);
+        let shares = tree.check_short(&caps).ok().map(|()| tree.level(&caps));
+        case(
+            "definition of the level split",
+            brute::level(tree, &caps) == shares,
+        );
+    }
+}

@@ -1,0 +1,287 @@
+//! The entries by straightforward algorithms, for networks of any size.
+
+pub const ARCS: usize = 1_023;
+pub const COST: u32 = 1_000_000_000;
+pub const AMOUNT: u64 = 2_000_000_000_000;
+
+/// A refusal number with its place; the shortfall is above 0 only with 9.
+#[derive(Clone, Copy, Debug, PartialEq)]
+pub struct Refusal {
+    pub number: u32,
+    pub place: usize,
+    pub shortfall: u64,
+}
+
+pub type Answer<T> = Result<T, Refusal>;
+
+pub fn refuse<T>(number: u32, place: usize) -> Answer<T> {
+    Err(Refusal {
+        number,
+        place,
+        shortfall: 0,
+    })
+}
+
+pub fn check_tree(parents: &[u16], costs: &[u32]) -> Answer<()> {
+    if parents.is_empty() || parents.len() > ARCS {
+        return refuse(1, 0);
+    }
+    if parents.len() != costs.len() {
+        return refuse(2, 0);
+    }
+    for (arc, (&parent, &cost)) in (1..).zip(parents.iter().zip(costs)) {
+        if usize::from(parent) >= arc {
+            return refuse(3, arc);
+        }
+        if cost > COST {
+            return refuse(4, arc);
+        }
+    }
+    Ok(())
+}
+
+pub fn check_caps(members: usize, caps: &[u64]) -> Answer<()> {
+    check_entries(members, caps, |&cap| cap <= AMOUNT)
+}
+
+pub fn check_proposal(members: usize, proposal: &[i64]) -> Answer<()> {
+    check_entries(members, proposal, |share| share.unsigned_abs() <= AMOUNT)
+}
+
+fn check_entries<T>(members: usize, list: &[T], fits: impl Fn(&T) -> bool) -> Answer<()> {
+    if list.len() != members {
+        return refuse(6, 0);
+    }
+    match list.iter().position(|entry| !fits(entry)) {
+        Some(member) => refuse(7, member),
+        None => Ok(()),
+    }
+}
+
+pub fn check_output(length: usize, written: usize) -> Answer<()> {
+    if length == written {
+        Ok(())
+    } else {
+        refuse(8, 0)
+    }
+}
+
+/// An accepted tree. Lists by arc have an unused entry 0.
+pub struct Tree {
+    pub parent: Vec<usize>,
+    pub cost: Vec<u64>,
+    /// The vertex of each member.
+    pub members: Vec<usize>,
+    /// The users of each arc, in rising member number.
+    pub users: Vec<Vec<usize>>,
+}
+
+impl Tree {
+    pub fn new(parents: &[u16], costs: &[u32]) -> Answer<Tree> {
+        check_tree(parents, costs)?;
+        let arcs = parents.len();
+        let mut parent = vec![0];
+        parent.extend(parents.iter().map(|&p| usize::from(p)));
+        let mut cost = vec![0];
+        cost.extend(costs.iter().map(|&c| u64::from(c)));
+        let mut childless = vec![true; arcs + 1];
+        for arc in 1..=arcs {
+            childless[parent[arc]] = false;
+        }
+        let members: Vec<usize> = (1..=arcs).filter(|&v| childless[v]).collect();
+        let mut users = vec![Vec::new(); arcs + 1];
+        for (member, &vertex) in members.iter().enumerate() {
+            let mut arc = vertex;
+            while arc != 0 {
+                users[arc].push(member);
+                arc = parent[arc];
+            }
+        }
+        Ok(Tree {
+            parent,
+            cost,
+            members,
+            users,
+        })
+    }
+
+    pub fn arcs(&self) -> usize {
+        self.parent.len() - 1
+    }
+
+    pub fn whole(&self) -> u64 {
+        self.cost.iter().sum()
+    }
+
+    /// The need of each arc, entry 0 being arc 1's.
+    pub fn needs(&self) -> Vec<u64> {
+        let mut need = self.cost.clone();
+        for arc in (1..=self.arcs()).rev() {
+            need[self.parent[arc]] += need[arc];
+        }
+        need.split_off(1)
+    }
+
+    pub fn group_cost(&self, group: &[usize]) -> u64 {
+        let mut used = vec![false; self.arcs() + 1];
+        let mut cost = 0;
+        for &member in group {
+            let mut arc = self.members[member];
+            while arc != 0 && !used[arc] {
+                used[arc] = true;
+                cost += self.cost[arc];
+                arc = self.parent[arc];
+            }
+        }
+        cost
+    }
+
+    /// The greatest overpayment and the smallest group that reaches it.
+    pub fn greatest_overpayment(&self, proposal: &[i64]) -> (u64, Vec<usize>) {
+        let arcs = self.arcs();
+        let mut gain = vec![0i64; arcs + 1];
+        for (member, &vertex) in self.members.iter().enumerate() {
+            gain[vertex] = proposal[member];
+        }
+        let mut kept = vec![false; arcs + 1];
+        for arc in (1..=arcs).rev() {
+            let above = gain[arc] - self.cost[arc] as i64;
+            if above > 0 {
+                kept[arc] = true;
+                gain[self.parent[arc]] += above;
+            }
+        }
+        kept[0] = true;
+        for arc in 1..=arcs {
+            kept[arc] = kept[arc] && kept[self.parent[arc]];
+        }
+        let group = (0..self.members.len()).filter(|&j| kept[self.members[j]]);
+        (gain[0] as u64, group.collect())
+    }
+
+    /// The first arc from the last down whose users' caps fall short of its need.
+    pub fn check_short(&self, caps: &[u64]) -> Answer<()> {
+        let needs = self.needs();
+        for arc in (1..=self.arcs()).rev() {
+            let sum: u64 = self.users[arc].iter().map(|&j| caps[j]).sum();
+            if sum < needs[arc - 1] {
+                return Err(Refusal {
+                    number: 9,
+                    place: arc,
+                    shortfall: needs[arc - 1] - sum,
+                });
+            }
+        }
+        Ok(())
+    }
+
+    pub fn level(&self, caps: &[u64]) -> Vec<u64> {
+        let mut shares = vec![0; self.members.len()];
+        for arc in (1..=self.arcs()).rev() {
+            raise(&mut shares, &self.users[arc], caps, self.cost[arc]);
+        }
+        shares
+    }
+
+    pub fn by_arc(&self) -> Vec<u64> {
+        let mut shares = vec![0; self.members.len()];
+        for arc in (1..=self.arcs()).rev() {
+            let users = &self.users[arc];
+            let count = users.len() as u64;
+            for (rank, &member) in users.iter().enumerate() {
+                let more = (rank as u64) < self.cost[arc] % count;
+                shares[member] += self.cost[arc] / count + u64::from(more);
+            }
+        }
+        shares
+    }
+}
+
+/// Gives the units to the users: all up to the greatest level that the units
+/// pay for, then one more to the lowest-numbered users at that level.
+fn raise(shares: &mut [u64], users: &[usize], caps: &[u64], units: u64) {
+    let taken = |level: u64| -> u64 {
+        let rise = |&j: &usize| level.min(caps[j]).saturating_sub(shares[j]);
+        users.iter().map(rise).sum()
+    };
+    let (mut level, mut above) = (0, AMOUNT + 1);
+    while above - level > 1 {
+        let middle = (level + above) / 2;
+        if taken(middle) <= units {
+            level = middle;
+        } else {
+            above = middle;
+        }
+    }
+    let mut left = units - taken(level);
+    for &j in users {
+        shares[j] = shares[j].max(level.min(caps[j]));
+        if left > 0 && shares[j] == level && level < caps[j] {
+            shares[j] += 1;
+            left -= 1;
+        }
+    }
+}
+
+#[derive(Clone, Debug, PartialEq)]
+pub enum Verdict {
+    Pass,
+    WrongTotal(i64),
+    Objection(u64, Vec<usize>),
+}
+
+pub fn list_members(parents: &[u16], costs: &[u32], length: usize) -> Answer<Vec<u16>> {
+    let tree = Tree::new(parents, costs)?;
+    check_output(length, tree.members.len())?;
+    Ok(tree.members.iter().map(|&v| v as u16).collect())
+}
+
+pub fn list_needs(parents: &[u16], costs: &[u32], length: usize) -> Answer<(Tree, Vec<u64>)> {
+    let tree = Tree::new(parents, costs)?;
+    check_output(length, tree.arcs())?;
+    let needs = tree.needs();
+    Ok((tree, needs))
+}
+
+/// The group's size and cost.
+pub fn group_cost(parents: &[u16], costs: &[u32], group: &[u64; 16]) -> Answer<(usize, u64)> {
+    let tree = Tree::new(parents, costs)?;
+    let bits = (0..1024).filter(|j| group[j / 64] & (1 << (j % 64)) != 0);
+    let bits: Vec<usize> = bits.collect();
+    match bits.iter().find(|&&j| j >= tree.members.len()) {
+        Some(&bit) => refuse(5, bit),
+        None => Ok((bits.len(), tree.group_cost(&bits))),
+    }
+}
+
+pub fn audit(parents: &[u16], costs: &[u32], proposal: &[i64]) -> Answer<Verdict> {
+    let tree = Tree::new(parents, costs)?;
+    check_proposal(tree.members.len(), proposal)?;
+    let difference = proposal.iter().sum::<i64>() - tree.whole() as i64;
+    if difference != 0 {
+        return Ok(Verdict::WrongTotal(difference));
+    }
+    Ok(match tree.greatest_overpayment(proposal) {
+        (0, _) => Verdict::Pass,
+        (amount, group) => Verdict::Objection(amount, group),
+    })
+}
+
+pub fn split_level(
+    parents: &[u16],
+    costs: &[u32],
+    caps: &[u64],
+    length: usize,
+) -> Answer<Vec<u64>> {
+    let tree = Tree::new(parents, costs)?;
+    check_caps(tree.members.len(), caps)?;
+    check_output(length, tree.members.len())?;
+    tree.check_short(caps)?;
+    Ok(tree.level(caps))
+}
+
+pub fn split_by_arc(parents: &[u16], costs: &[u32], length: usize) -> Answer<Vec<u64>> {
+    let tree = Tree::new(parents, costs)?;
+    check_output(length, tree.members.len())?;
+    Ok(tree.by_arc())
+}

@@ -1,0 +1,122 @@
+//! The specification's networks to try (§10): the reference gives the values that it names,
+//! and the archive answers and writes what the reference gives.
+
+use crate::compare::Network;
+use crate::compare_job;
+use crate::job::Job;
+use crate::reference::{self, refuse, Answer, Refusal, Verdict};
+use crate::report;
+use crate::tally::Tally;
+use std::fmt::Debug;
+
+fn network(parents: &[u16], costs: &[u32]) -> Network {
+    Network {
+        parents: parents.to_vec(),
+        costs: costs.to_vec(),
+    }
+}
+
+fn named<T: Debug + PartialEq>(tally: &mut Tally, found: Answer<T>, expected: Answer<T>) {
+    let number = expected.as_ref().err().map_or(0, |r| r.number);
+    tally.case("table", number, [found, expected], true);
+}
+
+fn check(tally: &mut Tally, parents: &[u16], costs: &[u32], expected: Answer<()>) {
+    named(tally, reference::check_tree(parents, costs), expected);
+    network(parents, costs).check_tree(tally);
+}
+
+/// The group has bits in its first word alone.
+fn group(tally: &mut Tally, n: &Network, word: u64, expected: Answer<(usize, u64)>) {
+    let mut words = [0; 16];
+    words[0] = word;
+    let found = reference::group_cost(&n.parents, &n.costs, &words);
+    named(tally, found, expected);
+    n.group_cost(tally, &words);
+}
+
+fn needs(tally: &mut Tally, n: &Network, expected: &[u64]) {
+    let found = reference::list_needs(&n.parents, &n.costs, expected.len());
+    let needs = found.map(|(_, needs)| needs);
+    named(tally, needs, Ok(expected.to_vec()));
+    n.list_needs(tally, &vec![77; expected.len()]);
+}
+
+fn audit(tally: &mut Tally, n: &Network, proposal: &[i64], expected: Verdict) {
+    let found = reference::audit(&n.parents, &n.costs, proposal);
+    named(tally, found, Ok(expected));
+    n.audit(tally, proposal);
+}
+
+fn level(tally: &mut Tally, n: &Network, caps: &[u64], expected: Answer<Vec<u64>>) {
+    let found = reference::split_level(&n.parents, &n.costs, caps, caps.len());
+    named(tally, found, expected);
+    n.split_level(tally, caps, &vec![77; caps.len()]);
+}
+
+fn by_arc(tally: &mut Tally, n: &Network, expected: &[u64]) {
+    let found = reference::split_by_arc(&n.parents, &n.costs, expected.len());
+    named(tally, found, Ok(expected.to_vec()));
+    n.split_by_arc(tally, &vec![77; expected.len()]);
+}
+
+pub fn compare(tally: &mut Tally) {
+    let t = network(&[0, 1, 1, 0], &[6, 1, 5, 4]);
+    for (word, size, cost) in [(0, 0, 0), (1, 1, 7), (3, 2, 12), (6, 2, 15)] {
+        group(tally, &t, word, Ok((size, cost)));
+    }
+    needs(tally, &t, &[12, 1, 5, 4]);
+    audit(tally, &t, &[7, 5, 4], Verdict::Pass);
+    audit(tally, &t, &[8, 4, 4], Verdict::Objection(1, vec![0]));
+    audit(tally, &t, &[8, 4, 5], Verdict::WrongTotal(1));
+    audit(tally, &t, &[-1, 13, 4], Verdict::Objection(2, vec![1]));
+    level(tally, &t, &[100, 100, 100], Ok(vec![6, 6, 4]));
+    level(tally, &t, &[3, 9, 4], Ok(vec![3, 9, 4]));
+    let short = Refusal {
+        number: 9,
+        place: 1,
+        shortfall: 1,
+    };
+    level(tally, &t, &[3, 8, 100], Err(short));
+    by_arc(tally, &t, &[4, 8, 4]);
+    let u = network(&[0, 1, 1], &[7, 0, 0]);
+    by_arc(tally, &u, &[4, 3]);
+    level(tally, &u, &[3, 100], Ok(vec![3, 4]));
+    let w = network(&[0, 1, 1, 0], &[10, 1, 1, 8]);
+    audit(tally, &w, &[7, 7, 6], Verdict::Objection(2, vec![0, 1]));
+    limits(tally, &t);
+    report_on(tally, t);
+}
+
+fn limits(tally: &mut Tally, t: &Network) {
+    check(tally, &[0], &[1_000_000_000], Ok(()));
+    check(tally, &[0], &[1_000_000_001], refuse(4, 1));
+    check(tally, &[1], &[0], refuse(3, 1));
+    check(tally, &[0; 1_023], &[0; 1_023], Ok(()));
+    check(tally, &[0; 1_024], &[0; 1_024], refuse(1, 0));
+    group(tally, t, 1 << 2, Ok((1, 4)));
+    group(tally, t, 1 << 3, refuse(5, 3));
+}
+
+/// T with no note, caps 100 and the proposal 8 4 4.
+fn report_on(tally: &mut Tally, t: Network) {
+    let job = Job {
+        note: Vec::new(),
+        parents: t.parents,
+        fillers: vec![0; 4],
+        costs: t.costs,
+        caps: vec![100; 3],
+        proposals: vec![8, 4, 4],
+    };
+    let bytes = job.write();
+    let expected = "cost 16 members 3\naudit group 1 of 1: 0\nlevel ok\n\
+        0 at 2: proposed 8 by-arc 4 level 6\n\
+        1 at 3: proposed 4 by-arc 8 level 6\n\
+        2 at 4: proposed 4 by-arc 4 level 4\n";
+    named(
+        tally,
+        Ok((bytes.len(), report::text(&bytes))),
+        Ok((96, expected.into())),
+    );
+    compare_job::report(tally, &bytes);
+}

@@ -1,0 +1,94 @@
+#!/usr/bin/env python3
+"""Runs the report program on jobs and compares what it prints: report_program.py PROGRAM
+
+The expected text is worked out by the test vectors' script, with no call of the engine.
+"""
+import random
+import subprocess
+import sys
+from pathlib import Path
+
+sys.dont_write_bytecode = True
+TOP = Path(__file__).resolve().parent.parent
+sys.path.insert(0, str(TOP / "crates/test_vectors/script"))
+sys.path.insert(0, str(TOP / "crates/report"))
+
+from by_arc import by_arc_split
+from job import read_job
+from level import level_split
+from make import job as packed
+from networks import T, U, W, broom, chain, comb, random_caps, random_proposal, random_tree, star
+from rules import MOST_ARCS, MOST_CAP, Refusal, best_group, member_vertices
+
+
+def audit_line(parents, costs, proposal):
+    difference = sum(proposal) - sum(costs)
+    if difference:
+        return f"audit total {difference}"
+    over, group = best_group(parents, costs, proposal)
+    if over == 0:
+        return "audit pass"
+    return f"audit group {over} of {len(group)}: " + " ".join(map(str, group))
+
+
+def lines(data):
+    """The lines of the report on a job."""
+    lists = [[0] * MOST_ARCS for _ in range(4)]
+    try:
+        arcs, count, _ = read_job(data, *lists)
+    except Refusal as refusal:
+        return [str(refusal)]
+    parents, costs = lists[0][:arcs], lists[1][:arcs]
+    caps, proposal = lists[2][:count], lists[3][:count]
+    found = [f"cost {sum(costs)} members {count}", audit_line(parents, costs, proposal)]
+    try:
+        level = level_split(parents, costs, caps)
+        found.append("level ok")
+    except Refusal as refusal:
+        level = ["-"] * count
+        found.append(f"level {refusal} short {refusal.shortfall}")
+    by_arc = by_arc_split(parents, costs)
+    for j, vertex in enumerate(member_vertices(parents)):
+        found.append(f"{j} at {vertex}: proposed {proposal[j]} by-arc {by_arc[j]} level {level[j]}")
+    return found
+
+
+def job_of(tree, caps, proposal, note=b""):
+    return packed(note, list(zip(*tree)), list(zip(caps, proposal)))
+
+
+def jobs():
+    yield job_of(T, [100] * 3, [8, 4, 4])
+    yield job_of(T, [3, 8, 100], [8, 4, 5], b"note")
+    yield job_of(T, [100] * 3, [7, 5, 4])
+    yield job_of(T, [100] * 3, [-1, 13, 4])
+    yield job_of(U, [3, 100], [0, -7])
+    yield job_of(W, [100] * 3, [7, 7, 6])
+    for size in (0, 15, 16, 24_823, 24_824, 30_000):
+        yield bytes(size)
+    for shape in (chain, star, broom, comb):
+        parents = shape(1023)
+        count = len(member_vertices(parents))
+        yield job_of((parents, [10**9] * 1023), [MOST_CAP] * count, [-(2 * 10**12)] * count, bytes(255))
+    dice = random.Random(20261115)
+    for arcs in [dice.randint(1, 12) for _ in range(60)]:
+        tree = random_tree(dice, arcs)
+        data = job_of(tree, random_caps(dice, *tree), random_proposal(dice, *tree), bytes(dice.randrange(4)))
+        yield data
+        at = dice.randrange(len(data))
+        yield data[:at] + bytes([dice.randrange(256)]) + data[at + 1 :]
+
+
+def main(program):
+    tried = 0
+    for data in jobs():
+        expected = "".join(line + "\n" for line in lines(data))
+        printed = subprocess.run([program], input=data, capture_output=True, check=True).stdout.decode()
+        if printed != expected:
+            sys.exit(f"report: other text on the job {data.hex()[:400]}\n{printed[:400]}")
+        tried += 1
+    print(f"report: {tried} jobs")
+
+
+if __name__ == "__main__":
+    main(sys.argv[1])
