@@ -144,7 +144,7 @@ typedef struct ZilqodurReport {
     size_t length;    /* the number of bytes of the report */
 } ZilqodurReport;
 
-/* Whether the lists describe a tree. Refusals 1 to 4; 3 and 4 are looked for arc by arc. */
+/* Whether the lists describe a tree. Refusals 1, 2, then 3 and 4 arc by arc: the tree's refusals. */
 ZilqodurCheck zilqodur_check_tree(const uint16_t *parents, size_t parent_count, const uint32_t *costs, size_t cost_count);
 
 /* Whether there is one cap for each of so many members, each from 0 to 2,000,000,000,000. Refusals 6, 7. */
@@ -153,35 +153,35 @@ ZilqodurCheck zilqodur_check_caps(size_t members, const uint64_t *caps, size_t c
 /* Whether there is one share for each of so many members, each from -2,000,000,000,000 to 2,000,000,000,000. Refusals 6, 7. */
 ZilqodurCheck zilqodur_check_proposal(size_t members, const int64_t *proposal, size_t share_count);
 
-/* The number of members. Refusals 1 to 4. */
+/* The number of members. Refusals: the tree's. */
 ZilqodurMembers zilqodur_count_members(const uint16_t *parents, size_t parent_count, const uint32_t *costs, size_t cost_count);
 
-/* Writes the members' vertices, in rising order. `out` has one entry a member. Refusals 1 to 4, 8. */
+/* Writes the members' vertices, in rising order. `out` has one entry a member. Refusals: the tree's, 8. */
 ZilqodurMembers zilqodur_list_members(const uint16_t *parents, size_t parent_count, const uint32_t *costs, size_t cost_count,
                                       uint16_t *out, size_t out_count);
 
 /* Writes each arc's need: its cost plus the costs of all arcs below it. `out` has one entry an arc, entry 0 for arc 1.
- * Refusals 1 to 4, 8. */
+ * Refusals: the tree's, 8. */
 ZilqodurNeeds zilqodur_list_needs(const uint16_t *parents, size_t parent_count, const uint32_t *costs, size_t cost_count,
                                   uint64_t *out, size_t out_count);
 
-/* The size and the cost of a group, which is sixteen words. Refusals 1 to 4, 5. */
+/* The size and the cost of a group, which is sixteen words. Refusals: the tree's, 5. */
 ZilqodurGroup zilqodur_group_cost(const uint16_t *parents, size_t parent_count, const uint32_t *costs, size_t cost_count,
                                   const uint64_t group[16]);
 
 /* Whether the proposal adds up to the whole cost and, if so, whether some group pays more than it costs. `proposal` has one share a member,
- * each from -2,000,000,000,000 to 2,000,000,000,000. Refusals 1 to 4, 6, 7. */
+ * each from -2,000,000,000,000 to 2,000,000,000,000. Refusals: the tree's, 6, 7. */
 ZilqodurAudit zilqodur_audit(const uint16_t *parents, size_t parent_count, const uint32_t *costs, size_t cost_count,
                              const int64_t *proposal, size_t share_count);
 
 /* Writes the level split: arcs from m down to 1, each unit of an arc's cost to the user with the smallest share among users below their
  * cap, ties to the lowest member number. `caps` has one cap a member, each from 0 to 2,000,000,000,000; `out` has one entry a member.
- * Refusals 1 to 4, 6, 7, 8, 9; 9 is at the first arc in this order whose users' caps add up to less than its need. */
+ * Refusals: the tree's, 6, 7, 8, 9; 9 is at the first arc in this order whose users' caps add up to less than its need. */
 ZilqodurLevel zilqodur_split_level(const uint16_t *parents, size_t parent_count, const uint32_t *costs, size_t cost_count,
                                    const uint64_t *caps, size_t cap_count, uint64_t *out, size_t out_count);
 
 /* Writes the by-arc split: an arc with k users and cost c gives each user c / k, and one unit more to the c % k lowest-numbered users.
- * `out` has one entry a member. Refusals 1 to 4, 8. */
+ * `out` has one entry a member. Refusals: the tree's, 8. */
 ZilqodurMembers zilqodur_split_by_arc(const uint16_t *parents, size_t parent_count, const uint32_t *costs, size_t cost_count,
                                       uint64_t *out, size_t out_count);
 
@@ -192,7 +192,7 @@ ZilqodurMembers zilqodur_split_by_arc(const uint16_t *parents, size_t parent_cou
  *     member rows    a row a member, from member 0 on: its cap (8), its proposed share (8, two's complement)
  *     trailer        how many bytes stand before the arc rows (4) and how many before the member rows (4), the number of arc rows (2) and
  *                    of member rows (2), the version, which is 1 (2), and last the two closing bytes 0x54 and 0x4A
- * The entries that it writes no other function refuses by 1 to 4, 6 or 7. Refusals, in this order: 10 to 14, 1, 3, 4, 15, 7 on caps,
+ * No other function refuses the entries that it writes by the tree's refusals, 6 or 7. Refusals, in this order: 10 to 14, 1, 3, 4, 15, 7 on caps,
  * 7 on proposals. */
 ZilqodurJob zilqodur_read_job(const uint8_t *bytes, size_t byte_count, uint16_t *parents, size_t parent_count, uint32_t *costs,
                               size_t cost_count, uint64_t *caps, size_t cap_count, int64_t *proposals, size_t proposal_count);

@@ -23,7 +23,7 @@ fn divide(parents: &[u16], costs: &[u32], vertices: &mut [u16], out: &mut [u64])
     by_arc::write_by_arc(parents, costs, vertices, out);
 }
 
-// Writes one share a member. 1 to 4, then 8.
+// Writes one share a member. The tree's refusals, then 8.
 pub fn split_by_arc(parents: &[u16], costs: &[u32], out: &mut [u64]) -> MemberCount
     ensures { λ r. ⌜ memberCountOf r
         ≡ byArcAnswer (treeOf (now (parents .entry)) (now (costs .entry))) (now (out .entry)) ⌝ }

@@ -11,7 +11,7 @@ pub enum GroupCost {
     Refused(Refusal),
 }
 
-// 1 to 4, then 5.
+// The tree's refusals, then 5.
 pub fn group_cost(parents: &[u16], costs: &[u32], group: [u64; 16]) -> GroupCost
     ensures { λ r. ⌜ groupCostOf r ≡ groupCostAnswer (treeOf (now (parents .entry)) (now (costs .entry))) group ⌝ }
 {

@@ -91,7 +91,7 @@ fn split_accepted(
     LevelSplit::Split(members)
 }
 
-// Writes one share a member. 1 to 4, 6 and 7 on caps, 8, then 9.
+// Writes one share a member. The tree's refusals, 6 and 7 on caps, 8, then 9.
 pub fn split_level(parents: &[u16], costs: &[u32], caps: &[u64], out: &mut [u64]) -> LevelSplit
     ensures { λ r. ⌜ levelOf r
         ≡ levelAnswer (treeOf (now (parents .entry)) (now (costs .entry))) (now (caps .entry)) (now (out .entry)) ⌝ }

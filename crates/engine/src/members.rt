@@ -11,7 +11,7 @@ pub enum MemberCount {
     Refused(Refusal),
 }
 
-// 1 to 4.
+// The tree's refusals.
 pub fn count_members(parents: &[u16], costs: &[u32]) -> MemberCount
     ensures { λ r. ⌜ memberCountOf r ≡ memberCountAnswer (treeOf (now (parents .entry)) (now (costs .entry))) ⌝ }
 {
@@ -22,7 +22,7 @@ pub fn count_members(parents: &[u16], costs: &[u32]) -> MemberCount
     MemberCount::Members(tree::count_members(parents))
 }
 
-// Writes the members' vertices in rising order. 1 to 4, then 8.
+// Writes the members' vertices in rising order. The tree's refusals, then 8.
 pub fn list_members(parents: &[u16], costs: &[u32], out: &mut [u16]) -> MemberCount
     ensures { λ r. ⌜ memberCountOf r
         ≡ membersAnswer (treeOf (now (parents .entry)) (now (costs .entry))) (now (out .entry)) ⌝ }

@@ -11,7 +11,7 @@ pub enum NeedsFound {
     Refused(Refusal),
 }
 
-// Writes the need of each arc. 1 to 4, then 8.
+// Writes the need of each arc. The tree's refusals, then 8.
 pub fn list_needs(parents: &[u16], costs: &[u32], out: &mut [u64]) -> NeedsFound
     ensures { λ r. ⌜ needsOf r ≡ needsAnswer (treeOf (now (parents .entry)) (now (costs .entry))) (now (out .entry)) ⌝ }
     ensures { λ _. ⌜ now (out .exit)

@@ -60,7 +60,7 @@ fn search_verdict(parents: &[u16], costs: &[u32], proposal: &[i64]) -> Audited
     }
 }
 
-// 1 to 4, then 6 and 7.
+// The tree's refusals, then 6 and 7.
 pub fn audit(parents: &[u16], costs: &[u32], proposal: &[i64]) -> Audited
     ensures { λ r. ⌜ auditOf (r .answer)
         ≡ auditAnswer (treeOf (now (parents .entry)) (now (costs .entry))) (now (proposal .entry)) ⌝ }

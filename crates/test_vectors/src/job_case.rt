@@ -1,6 +1,7 @@
 // The cases of the job reader: the lengths of the four lists that it fills, then the job's bytes. Each entry is 9
 // before the call.
 use crate::print;
+use job::JobRead;
 use test_lines::field;
 use test_lines::hex;
 use test_lines::list;
@@ -11,7 +12,6 @@ use test_lines::print::list16;
 use test_lines::print::list32;
 use test_lines::print::text;
 use test_lines::rest;
-use job::JobRead;
 ghost use Prim.Native.Nat.{_≤_};
 ghost use lib.ListN.{length};
 ghost use Rattle.test_lines.specs.Lists.{MOST};

@@ -1,8 +1,4 @@
 // Printing the engine's answers.
-use test_lines::print::labelled;
-use test_lines::print::labelled_signed;
-use test_lines::print::list;
-use test_lines::print::text;
 use engine::AuditFound;
 use engine::Audited;
 use engine::Checked;
@@ -11,6 +7,10 @@ use engine::LevelSplit;
 use engine::MemberCount;
 use engine::NeedsFound;
 use engine::Refusal;
+use test_lines::print::labelled;
+use test_lines::print::labelled_signed;
+use test_lines::print::list;
+use test_lines::print::text;
 
 pub fn bad_case() {
     text(b"bad case");
