@@ -1,7 +1,8 @@
 #!/usr/bin/env bash
 # The tests beside rt ci, in groups: run.sh [GROUP..], where the groups named are the caller's own in python3.
-# The report program runs on jobs; the examples, the tests of the header and of the stack, the comparison with an
-# independent implementation and the benchmark, which only compares answers here, are built with the archive and run.
+# The report program runs on jobs; the examples, the README's program, the tests of the header and of the stack, the
+# comparison with an independent implementation and the benchmark, which only compares answers here, are built with the
+# archive and run.
 # A group whose tools are missing is left out; with CI set it counts as failed. The last line says how many groups ran
 # and which were left out. Exit status: the number of groups that failed.
 set -u
@@ -19,7 +20,7 @@ least_rustc=1.82
 warnings=(-Wall -Wextra -Wpedantic -Werror)
 
 # A group is a function whose name has _ for each space in the group's.
-in_c=(C_example header_in_C stack)
+in_c=(C_example program_in_the_README header_in_C stack)
 in_cpp=(header_in_C++)
 in_rust=(Rust_example comparison answers_of_the_benchmark)
 linked=("${in_c[@]}" "${in_cpp[@]}" "${in_rust[@]}")
@@ -102,6 +103,13 @@ build_of_the_archive() {
 # The example in C.
 C_example() {
     gcc -std=c99 "${warnings[@]}" -Iinclude examples/example.c $archive -o "$out/c" && prints_expected "$out/c"
+}
+
+# The README's program compiles as it stands, and prints the shares of the by-arc split.
+program_in_the_README() {
+    sed -n '/^    #include <stdio.h>/,/^    }$/s/^    //p' README.md >"$out/readme.c"
+    gcc -std=c99 "${warnings[@]}" -Iinclude "$out/readme.c" $archive -o "$out/readme" && "$out/readme" >"$out/readme.txt" &&
+        printf 'member %s pays %s\n' 0 4 1 8 2 4 | diff - "$out/readme.txt"
 }
 
 # The test of the header as C.

@@ -20,7 +20,7 @@ static int failures;
 
 static void expect(int holds, int line) {
     if (!holds) {
-        printf("tests/header.c:%d does not hold\n", line);
+        printf("tests/c/header.c:%d does not hold\n", line);
         failures++;
     }
 }
@@ -252,7 +252,20 @@ static void largest(void) {
     EXPECT(is_audit(zilqodur_audit(star, m, dear, m, proposal, m), 0, 0, ZILQODUR_OBJECTION, 0, 900000000000, 1, 15, UINT64_C(1) << 62));
 }
 
+/* Each number has a sentence of its own, and every other number the same one. */
+static void texts(void) {
+    const char *other = zilqodur_refusal_text(UINT32_MAX);
+    uint32_t a, b;
+    for (a = ZILQODUR_NO_REFUSAL; a <= ZILQODUR_JOB_MEMBERS; a++) {
+        EXPECT(strcmp(zilqodur_refusal_text(a), other) != 0);
+        for (b = ZILQODUR_NO_REFUSAL; b < a; b++) EXPECT(strcmp(zilqodur_refusal_text(a), zilqodur_refusal_text(b)) != 0);
+    }
+    EXPECT(strcmp(zilqodur_refusal_text(ZILQODUR_JOB_MEMBERS + 1), other) == 0);
+    EXPECT(strcmp(zilqodur_refusal_text(ZILQODUR_PARENT), "a parent is not below its arc's number") == 0);
+}
+
 int main(void) {
+    texts();
     sizes();
     trees();
     lists();
