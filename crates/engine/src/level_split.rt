@@ -1,6 +1,7 @@
 // The level split under caps.
 use answer_forms::Checked;
 use answer_forms::Refusal;
+use answer_forms::refusals;
 use level::CapsFound;
 use limits::MOST_ARCS;
 ghost use mathlib.Core.Path.{_≡_};
@@ -53,7 +54,7 @@ fn answer(members: usize, found: CapsFound) -> LevelSplit
     match found {
         CapsFound::Enough => LevelSplit::Split(members),
         CapsFound::Short { arc, shortfall } => LevelSplit::Refused {
-            number: 9,
+            number: refusals::CAPS_SHORT,
             place: arc,
             shortfall,
         },
