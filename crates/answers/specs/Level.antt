@@ -1,9 +1,8 @@
 -- The level split under caps: its answer and the list that it writes.
-use Prim.Native.Nat.{ℕ, zero, suc, _-_, _≤_}
-use mathlib.Core.Path.{_≡_}
+use Prim.Native.Nat.{ℕ, zero, suc, _-_}
 use mathlib.Core.Bool.{Bool, cond}
 use mathlib.Core.List.{List}
-use lib.ListN.{length, getD}
+use lib.ListN.{getD}
 use lib.Dec.{ltb}
 use Rattle.basics.specs.Sum.{pick}
 use Rattle.game.specs.Network.{Network, sumBelow, need, number, memberCount}

@@ -6,13 +6,15 @@ use level::CapsFound;
 use limits::MOST_ARCS;
 ghost use mathlib.Core.Path.{_≡_};
 ghost use lib.ListN.{length};
-ghost use Rattle.game.specs.Network.{memberCount};
+ghost use mathlib.Core.List.{[]};
+ghost use Rattle.game.specs.Network.{memberCount, members};
 ghost use Rattle.game.specs.Tree.{treeOf, networkOf, ofArc};
 ghost use Rattle.game.specs.Level.{level};
 ghost use Rattle.answer_forms.specs.Answer.{accepted, _then_};
 ghost use Rattle.answers.specs.Checks.{treeCheck};
 ghost use Rattle.answers.specs.Level.{refusal, capsCheck, shortArc, splitOr9, listAfter, levelAnswer, levelList};
 ghost use Rattle.answer_forms.specs.Checked.{checkOf};
+ghost use Rattle.tree.specs.Passes.{Capped};
 ghost use Rattle.level.specs.Found.{answerOf};
 ghost use Rattle.engine.specs.Outcomes.{levelOf};
 
@@ -61,6 +63,19 @@ fn answer(members: usize, found: CapsFound) -> LevelSplit
     }
 }
 
+// The caps are enough; `vertices` are the members'.
+fn write_shares(parents: &[u16], costs: &[u32], vertices: &[u16], caps: &[u64], out: &mut [u64])
+    requires { ⌜ treeCheck (treeOf (now parents) (now costs)) ≡ accepted ⌝ }
+    requires { ⌜ now vertices ≡ members (networkOf (now parents) []) ⌝ }
+    requires { ⌜ Capped (length (now vertices)) (now caps) ⌝ }
+    requires { ⌜ length (now out) ≡ length (now vertices) ⌝ }
+    requires { ⌜ shortArc (networkOf (now parents) (now costs)) (now caps) (length (now parents)) ≡ 0 ⌝ }
+    ensures { λ _. ⌜ now (out .exit) ≡ level (networkOf (now (parents .entry)) (now (costs .entry)))
+        (now (caps .entry)) (ofArc (now (costs .entry))) ⌝ }
+{
+    level::write_level(parents, costs, vertices, caps, out);
+}
+
 // The lists are accepted; `vertices` is room for one entry a member.
 fn split_accepted(
     parents: &[u16],
@@ -88,7 +103,7 @@ fn split_accepted(
     let CapsFound::Enough = found else {
         return answer(members, found);
     };
-    level::write_level(parents, costs, vertices, caps, out);
+    write_shares(parents, costs, vertices, caps, out);
     LevelSplit::Split(members)
 }
 

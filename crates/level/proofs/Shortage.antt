@@ -1,5 +1,5 @@
 -- The arcs from the last down, over the lists of needs and cap sums.
-use Prim.Native.Nat.{ℕ, zero, suc, _-_, _≤_}
+use Prim.Native.Nat.{ℕ, zero, suc, _≤_}
 use mathlib.Core.Path.{_≡_, refl, sym, ap, ap₂, _∙_}
 use mathlib.Core.Bool.{true, false}
 use mathlib.Core.Logic.{⊎-elim}
@@ -9,7 +9,7 @@ use lib.ListN.{length, getD}
 use lib.Dec.{ltb}
 use Rattle.basics.specs.Sum.{list}
 use Rattle.game.specs.Network.{Network, sumBelow, need, memberCount}
-use Rattle.game.specs.Tree.{network, networkOf}
+use Rattle.game.specs.Tree.{networkOf}
 use Rattle.basics.proofs.Bools.{both}
 use Rattle.basics.proofs.Lists.{list-at}
 use Rattle.answers.specs.Level.{split, capSum, shortArc, splitOr9}

@@ -67,15 +67,11 @@ find-short-requires c κs = (
 
 returns : tie.Need-returns
 returns c =
-    let s =
-    c .before .before .before .before .before .before .before .before .before .before .before .before .before .before
-    in
+    let members = c .before .before .before .before .before .before .before in
+    let s = start-write-members members in
     let n = net s in
     let found = c .before .before .before .find-short in (
-      c .answer .ensures
-          ∙ ap (λ (m : ℕ). answerOf m (found .result))
-          (written (c .before .before .before .before .before .before .before))
-          ∙ found .ensures,
+      c .answer .ensures ∙ ap (λ (m : ℕ). answerOf m (found .result)) (written members) ∙ found .ensures,
       sym (ap (λ (a : LevelAnswer). listAfter a (the-out s) (level n (the-caps s) (ofArc (the-costs s))))
           (c .answer .ensures ∙ ap (answerOf _) (c .before .enum-told2 .given .1))),
     )
@@ -90,29 +86,19 @@ enough c =
     ∙ c .before .before .find-short .ensures
 
 returns-2 : tie.Need-returns-2
-returns-2 c = (
-  ap split (written (c .before .before .before .before .before .before .before .before .before .before .before))
-      ∙ enough (c .before .before .before .before .before),
-  c .before .before .write-level .ensures,
-)
-
-write-level-requires : tie.Need-write-level-requires
-write-level-requires c κs =
-    let s =
-    c .before .before .before .before .before .before .before .before .before .before .before .before .before .before .before
-    in (
-      s .pre .0,
-      (
-        c .before .before .before .before .before .before .before .before .write-members .ensures,
-        (
-          capped (c .before .before .before .before .before .before .before .before),
-          (
-            s .pre .1 .1 .1 ∙ sym (written (c .before .before .before .before .before .before .before .before)),
-            none-short (net s) (the-caps s) _ (enough (c .before .before)),
-          ),
-        ),
-      ),
+returns-2 c =
+    let told = c .before .before .before .before .before in (
+      ap split (written (told .before .before .before .before .before .before)) ∙ enough told,
+      c .before .before .write-shares .ensures,
     )
+
+write-shares-requires : tie.Need-write-shares-requires
+write-shares-requires c κs =
+    let members = c .before .before .before .before .before .before .before .before in
+    let s = start-write-members members in
+    let places = s .pre .1 .1 .1 ∙ sym (written members) in
+    let enough-everywhere = none-short (net s) (the-caps s) _ (enough (c .before .before)) in
+    (s .pre .0, (members .write-members .ensures, (capped members, (places, enough-everywhere))))
 
 pub split-accepted-spec : {M : Type 1} → statement M
 split-accepted-spec =
@@ -125,7 +111,7 @@ split-accepted-spec =
     (λ c κs. search needs)
     (λ c. search needs)
     returns
-    write-level-requires
+    write-shares-requires
     (λ c. search needs)
     (λ c. search needs)
     returns-2)
