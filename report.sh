@@ -3,7 +3,7 @@
 set -eu
 job=$(realpath "${1:-$(dirname "$0")/crates/report/stdin}")
 cd "$(dirname "$0")"
-echo "Proving and making the report program; the first time that takes some minutes." >&2
+echo "Proving and making the report program; the first time that takes some four minutes." >&2
 log=$(mktemp)
 trap 'rm "$log"' EXIT
 rt check report >"$log" 2>&1 || { cat "$log" >&2; exit 1; }
