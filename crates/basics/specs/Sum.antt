@@ -42,5 +42,6 @@ unfoldable pub entries : {A : Type 0} → ℕ → (ℕ → A) → List A
 entries zero f = []
 entries (suc n) f = entries n f ++ (f n ∷ [])
 
+-- the smaller of two numbers
 abbrev pub smaller : ℕ → ℕ → ℕ
 smaller a b = cond (ltb a b) a b
