@@ -1,5 +1,5 @@
--- The level rule keeps the caps, gives every arc's users what the arcs at or below it give out, and has the least sum of
--- squares. `Reached k t x`: x are the shares after the arcs above k and t units of arc k.
+-- The level rule keeps the caps, gives every arc's users what the arcs at or below it give out, and has the least sum
+-- of squares. `Reached k t x`: x are the shares after the arcs above k and t units of arc k.
 --
 --   start, one-unit, finish       the beginning, one unit more, the next arc
 --   some-free                     a user below its cap for the next unit
