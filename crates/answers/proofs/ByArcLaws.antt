@@ -12,7 +12,7 @@ use Rattle.game.specs.Core.{Core}
 use Rattle.game.specs.ByArc.{userCount, gift, byArc}
 use Rattle.game.specs.Shapley.{Even}
 use Rattle.basics.proofs.Sums.{In, sum-mono, term₀-le}
-use Rattle.game.proofs.DeadEnds.{tree-ends, every-arc-used}
+use Rattle.game.proofs.DeadEnds.{dead-ends, every-arc-used}
 use Rattle.game.proofs.Core.{need-to-core}
 use Rattle.game.proofs.Shapley.{shapley-by-arcs, whole-part}
 use Rattle.game.proofs.Even.{even-near}
@@ -35,7 +35,8 @@ use Rattle.answers.proofs.AuditLaws.{audit-laws}
 
 -- every arc of an accepted tree has a user
 pub some-users : (t : Tree) → Accepted t → (k : ℕ) → In (network t .arcs) k → 0 < userCount (network t) k
-some-users t acc k i = used-count (network t) k (every-arc-used (network t) (acc .rooted) (tree-ends t) k i)
+some-users t acc k i =
+    used-count (network t) k (every-arc-used (network t) (acc .rooted) (dead-ends (t .parents) (t .costs)) k i)
 
 module _ (t : Tree) (out : List ℕ) (ok : membersCheck t out ≡ accepted) where
   tree-ok : treeCheck t ≡ accepted

@@ -3,7 +3,6 @@ use Prim.Native.Nat.{ℕ}
 use mathlib.Core.Logic.{_⊎_, inl, inr, ⊎-elim}
 use mathlib.Core.Path.{_≡_}
 use mathlib.Core.Bool.{true, false}
-use borrow.Author.Tests.{not-true}
 use lib.IntN.{ℤ, pos}
 use lib.Signed.{_≤ℤ_}
 use native.Mathlib.Omega.{arith}
@@ -16,7 +15,7 @@ use Rattle.basics.proofs.Sums.{In}
 use Rattle.game.specs.Tree.{Tree, network, ofArc, hasChild}
 use Rattle.game.proofs.Certificate.{parent-in}
 use Rattle.game.proofs.Excess.{MembersEnd}
-use Rattle.game.proofs.DeadEnds.{tree-ends, unused-free}
+use Rattle.game.proofs.DeadEnds.{no-child, dead-ends, unused-free}
 use Rattle.game.proofs.Bounds as Bounds
 use Rattle.game.proofs.Runs as Runs
 use Rattle.game.proofs.Core.{core-to-bound, bound-to-need, need-to-core, core-nonneg}
@@ -26,7 +25,7 @@ use Rattle.answers.proofs.Accepted.{Accepted, tree-accepted}
 -- a member is a vertex without a child
 pub members-end : (t : Tree) → MembersEnd (network t)
 unfolding hasChild
-members-end t v m = not-true (hasChild (t .parents) v) m
+members-end t v m = no-child (t .parents) v m
 
 not-negative : (x : ℤ) → minus x ≡ 0 → pos 0 ≤ℤ x
 not-negative x e = less-le (pos 0) x (less-parts (pos 0)) (less-parts x) (omega arith)
@@ -58,7 +57,7 @@ core-laws t e =
     }
   where
     free : Accepted t → Bounds.UnusedFree (network t)
-    free ok = unused-free (network t) (ok .rooted) (tree-ends t)
+    free ok = unused-free (network t) (ok .rooted) (dead-ends (t .parents) (t .costs))
 
     other : (k : ℕ) → RunTop t k → (ofArc (t .parents) k ≡ 0) ⊎ Bounds.OtherUser (network t) k
     other k (inl z) = inl z

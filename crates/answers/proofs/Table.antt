@@ -1,7 +1,7 @@
 -- The table, by evaluation.
 use mathlib.Core.Path.{refl}
 use Rattle.game.specs.Network.{climb, used, groupCost, sumBelow, wholeCost, membersTo}
-use Rattle.game.specs.Tree.{hasChild}
+use Rattle.game.specs.Tree.{hasChild, deadEnds}
 use Rattle.basics.specs.Bit.{bit}
 use Rattle.basics.specs.Sum.{size, entries}
 use Rattle.game.specs.Group.{wordsOf}
@@ -19,10 +19,10 @@ use Rattle.answers.specs.ByArc.{byArcAnswer, byArcList}
 use Rattle.answers.specs.Table.{Table}
 
 pub table : Table
-unfolding climb used groupCost sumBelow wholeCost membersTo hasChild bit size entries wordsOf pays groups best named
-    arcsCheck treeCheck bitsCheck rangeCheck memberCountAnswer membersAnswer membersList needsAnswer needsList
-    groupCostAnswer verdict auditAnswer auditWords firstLeast units arcsDown shortArc levelAnswer levelList giveArc
-    byArcDown byArcAnswer byArcList
+unfolding climb used groupCost sumBelow wholeCost membersTo hasChild deadEnds bit size entries wordsOf pays groups
+    best named arcsCheck treeCheck bitsCheck rangeCheck memberCountAnswer membersAnswer membersList needsAnswer
+    needsList groupCostAnswer verdict auditAnswer auditWords firstLeast units arcsDown shortArc levelAnswer levelList
+    giveArc byArcDown byArcAnswer byArcList
 table =
     record {
       T-members = refl;

@@ -3,3 +3,4 @@ pub mod Sums
 pub mod Sizes
 pub mod Lists
 pub mod Integers
+pub mod Filling

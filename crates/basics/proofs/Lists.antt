@@ -3,6 +3,7 @@
 --   entries-length, entries-at, entries-are   its length; its entry i; a list with these entries is that list
 --   entries-front, entries-part               it as the front of a list, and as the part that code takes
 --   list-length, list-at, list-is             the same of `list`, whose entry i is f (i + 1)
+--   front-part                                the part that code takes of a list that starts with another
 --   zeros-length                              the front of an array of zeros, lent as a list
 use Prim.Native.Nat.{ℕ, zero, suc, _-_, _<_, _≤_}
 use mathlib.Core.Path.{_≡_, refl, sym, ap, _∙_}
@@ -13,6 +14,10 @@ use native.Mathlib.Omega.{arith}
 use lib.ListN.{length, getD, take, replicate, length-append, length-take, length-replicate, List·getD-append}
 use lib.Seq.{getD-at, take-at, ext-getD}
 use Rattle.basics.specs.Sum.{list, entries}
+
+-- the part [0..n] that code takes of a list whose first n entries are another's
+pub front-part : {A : Type 0} (front rest : List A) (n : ℕ) → length front ≡ n → take (n - 0) (front ++ rest) ≡ front
+front-part front rest n e = rw sub-zero (take-at front rest n e)
 
 module _ {A : Type 0} (f : ℕ → A) where
   pub entries-length : (n : ℕ) → length (entries n f) ≡ n
@@ -25,7 +30,7 @@ module _ {A : Type 0} (f : ℕ → A) where
   entries-front n rest = take-at (entries n f) rest n (entries-length n)
 
   pub entries-part : (n : ℕ) (rest : List A) {l : List A} → l ≡ entries n f ++ rest → take (n - 0) l ≡ entries n f
-  entries-part n rest e = rw (sub-zero, e) (entries-front n rest)
+  entries-part n rest e = rw e (front-part (entries n f) rest n (entries-length n))
 
   module _ (d : A) where
     pub entries-at : (n i : ℕ) → i < n → getD (entries n f) i d ≡ f i

@@ -49,7 +49,7 @@ module _ (n : Network) (rooted : Rooted n) where
 
 module _ (ps each more₀ : List ℕ) (v : ℕ) where
   abbrev n : Network
-  n = networkOf ps []
+  n = networkOf ps [] []
 
   -- what arc k gives
   abbrev gives : ℕ → ℕ

@@ -7,18 +7,19 @@ use native.Mathlib.Omega.{arith}
 use lib.ListN.{length, getD, set}
 use Rattle.basics.specs.Sum.{pick, entries}
 use Rattle.game.specs.Network.{Network, atOrBelow, members}
-use Rattle.game.specs.Tree.{networkOf, ofArc}
+use Rattle.game.specs.Tree.{ofArc}
 use Rattle.game.specs.Core.{users}
 use Rattle.basics.proofs.Sums.{In, sum-cong}
 use Rattle.basics.proofs.Sizes.{size-more, size-none}
 use Rattle.basics.proofs.Lists.{list-length, entries-are}
 use Rattle.game.proofs.ArcEntries.{of-list}
-use Rattle.tree.proofs.Filling.{Filling, filling-start, filling-on}
+use Rattle.tree.specs.Passes.{networkAt}
+use Rattle.basics.proofs.Filling.{Filling, filling-start, filling-on}
 use Rattle.by_arc.specs.Parts.{Parts, given, sumAbove, oneLess, left, dealt}
 
-module _ (ps each more₀ shares₀ : List ℕ) where
+module _ (ps vertices each more₀ shares₀ : List ℕ) where
   abbrev n : Network
-  n = networkOf ps []
+  n = networkAt ps [] vertices
 
   -- the members below j have their shares
   pub record Serving (more shares : List ℕ) (j : ℕ) : Type 0 where

@@ -1,4 +1,6 @@
 pub mod OneToOne
+mod TreeAccepted
+mod MembersListed
 mod AuditAnswer
 mod NamedSize
 mod Total

@@ -1,14 +1,42 @@
 // The needs of all arcs in a lent list; the whole cost and the number of members.
 use answer_forms::Checked;
 use answer_forms::Refusal;
+use limits::MOST_ARCS;
 ghost use mathlib.Core.Path.{_≡_};
-ghost use Rattle.game.specs.Tree.{treeOf};
+ghost use lib.ListN.{length};
+ghost use Rattle.basics.specs.Sum.{list};
+ghost use Rattle.game.specs.Network.{need, wholeCost, memberCount};
+ghost use Rattle.game.specs.Tree.{treeOf, networkOf};
+ghost use Rattle.answer_forms.specs.Answer.{answer, written};
+ghost use Rattle.answers.specs.Checks.{outputCheck};
 ghost use Rattle.answers.specs.Needs.{needsAnswer, needsList};
+ghost use Rattle.tree.specs.Passes.{Sound, Costed, Marked};
 ghost use Rattle.engine.specs.Outcomes.{needsOf};
 
 pub enum NeedsFound {
     Needs { whole: u64, members: usize },
     Refused(Refusal),
+}
+
+// The tree is accepted and its members are marked. 8.
+fn list_in_tree(parents: &[u16], costs: &[u32], marks: &[u16], out: &mut [u64]) -> NeedsFound
+    requires { ⌜ Sound (now parents) ⌝ }
+    requires { ⌜ Costed (now parents) (now costs) ⌝ }
+    requires { ⌜ Marked (now parents) (now marks) ⌝ }
+    ensures { λ r. ⌜ (let n = networkOf (now (parents .entry)) (now (costs .entry)) (now (marks .entry)) in
+        needsOf r ≡ answer (outputCheck (length (now (parents .entry))) (now (out .entry)))
+        (record { whole = wholeCost n; members = memberCount n })) ⌝ }
+    ensures { λ _. ⌜ (let n = networkOf (now (parents .entry)) (now (costs .entry)) (now (marks .entry)) in
+        now (out .exit) ≡ written (outputCheck (length (now (parents .entry))) (now (out .entry))) (now (out .entry))
+        (list (length (now (parents .entry))) (need n))) ⌝ }
+{
+    let output = checks::check_output(out.len(), parents.len());
+    let Checked::Accepted = output else {
+        return NeedsFound::Refused(answer_forms::refusal_of(output));
+    };
+    let members = tree::count_members(marks);
+    let whole = tree::write_needs(parents, costs, out);
+    NeedsFound::Needs { whole, members }
 }
 
 // Writes the need of each arc. The tree's refusals, then 8.
@@ -21,11 +49,8 @@ pub fn list_needs(parents: &[u16], costs: &[u32], out: &mut [u64]) -> NeedsFound
     let Checked::Accepted = tree else {
         return NeedsFound::Refused(answer_forms::refusal_of(tree));
     };
-    let output = checks::check_output(out.len(), parents.len());
-    let Checked::Accepted = output else {
-        return NeedsFound::Refused(answer_forms::refusal_of(output));
-    };
-    let members = tree::count_members(parents);
-    let whole = tree::write_needs(parents, costs, out);
-    NeedsFound::Needs { whole, members }
+    let m = parents.len();
+    let mut marks = [0u16; MOST_ARCS];
+    dead_ends::write_dead_ends(parents, &mut marks[0..m]);
+    list_in_tree(parents, costs, &marks[0..m], out)
 }

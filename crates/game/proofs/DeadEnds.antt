@@ -1,16 +1,21 @@
 -- Where the members are the dead ends every arc has a user, so the counted costs are the costs.
 use Prim.Native.Nat.{ℕ, zero, suc, _+_, _≤_}
 use mathlib.Core.Path.{_≡_, refl, sym, ap, _∙_}
-use mathlib.Core.Bool.{true, false, not}
+use mathlib.Core.Bool.{Bool, true, false, not}
 use mathlib.Core.Logic.{_⊎_, inl, inr, ⊎-elim}
-use lib.ListN.{length}
+use mathlib.Core.List.{List}
+use lib.ListN.{length, List·getD-eq-default}
+use native.Mathlib.Decide.{decLt}
 use native.Mathlib.Omega.{arith}
-use borrow.Author.Tests.{eqb-true}
+use borrow.Author.Tests.{eqb-true, not-true}
 use lib.Dec.{eqb}
+use Rattle.basics.specs.Sum.{pick}
 use Rattle.game.specs.Network.{Network, used, everyone, wholeCost, groupCost}
 use Rattle.game.proofs.Counted.{counted, atCounted}
-use Rattle.game.specs.Tree.{Tree, ofArc, hasChild, network}
-use Rattle.basics.proofs.Bools.{both, and-both, pick-yes, pick-no}
+use Rattle.game.specs.Tree.{ofArc, hasChild, marked, deadEnds, networkOf}
+use Rattle.basics.proofs.Bools.{both, clash, and-both, pick-yes, pick-no}
+use Rattle.basics.proofs.Lists.{list-length}
+use Rattle.game.proofs.ArcEntries.{of-list}
 use Rattle.basics.proofs.Sums.{In, Some, some-is, sum-cong}
 use Rattle.game.proofs.Below.{Rooted, below-self, child-after}
 use Rattle.game.proofs.Groups.{used-of, used-child, everyone-cost}
@@ -19,13 +24,39 @@ use Rattle.game.proofs.Groups.{used-of, used-child, everyone-cost}
 abbrev pub Ends : Network → Type 0
 Ends n = (k : ℕ) → In (n .arcs) k → (n .member k ≡ true) ⊎ Some (n .arcs) (λ u. eqb (n .parent u) k)
 
-pub tree-ends : (t : Tree) → Ends (network t)
-unfolding hasChild
-tree-ends t k i =
-    ⊎-elim
-    (λ (e : hasChild (t .parents) k ≡ true). inr (some-is (length (t .parents)) (λ u. eqb (ofArc (t .parents) u) k) e))
-    (λ (e : hasChild (t .parents) k ≡ false). inl (ap not e))
-    (both (hasChild (t .parents) k))
+module _ (ps : List ℕ) where
+  -- the dead ends are marked
+  pub dead-end : (v : ℕ) → In (length ps) v → marked (deadEnds ps) v ≡ not (hasChild ps v)
+  unfolding deadEnds
+  dead-end v i =
+      ap (λ (x : ℕ). eqb x 1) (of-list (length ps) (λ u. pick (not (hasChild ps u)) 1) v i)
+      ∙ ones (not (hasChild ps v))
+    where
+      ones : (b : Bool) → eqb (pick b 1) 1 ≡ b
+      ones true = refl
+      ones false = refl
+
+  -- and nothing else is
+  pub no-child : (v : ℕ) → marked (deadEnds ps) v ≡ true → hasChild ps v ≡ false
+  unfolding deadEnds
+  no-child zero m = absurd (clash m refl)
+  no-child (suc i) m =
+      elim (decLt i (length ps)) [
+        | yes h ↦ not-true (hasChild ps (suc i)) (sym (dead-end (suc i) (omega arith)) ∙ m)
+        | no h ↦ absurd
+            (clash m
+            (ap (λ (x : ℕ). eqb x 1)
+            (List·getD-eq-default (deadEnds ps) 0 {n = i}
+            (omega (arith, list-length (λ v. pick (not (hasChild ps v)) 1) (length ps))))))
+      ]
+
+  pub dead-ends : (cs : List ℕ) → Ends (networkOf ps cs (deadEnds ps))
+  unfolding hasChild
+  dead-ends cs k i =
+      ⊎-elim
+      (λ (e : hasChild ps k ≡ true). inr (some-is (length ps) (λ u. eqb (ofArc ps u) k) e))
+      (λ (e : hasChild ps k ≡ false). inl (dead-end k i ∙ ap not e))
+      (both (hasChild ps k))
 
 module _ (n : Network) (rooted : Rooted n) (ends : Ends n) where
   own : (k : ℕ) → In (n .arcs) k → n .member k ≡ true → used n everyone k ≡ true

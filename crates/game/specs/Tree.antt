@@ -4,7 +4,7 @@ use mathlib.Core.Bool.{Bool, not}
 use mathlib.Core.List.{List}
 use lib.ListN.{length, getD}
 use lib.Dec.{eqb}
-use Rattle.basics.specs.Sum.{some}
+use Rattle.basics.specs.Sum.{pick, some, list}
 use Rattle.game.specs.Network.{Network}
 
 -- the parent and the cost of each arc, entry 0 for arc 1
@@ -24,16 +24,19 @@ ofArc l (suc i) = getD l i 0
 unfoldable pub hasChild : List ℕ → ℕ → Bool
 hasChild parents v = some (length parents) (λ u. eqb (ofArc parents u) v)
 
--- the members are the vertices from 1 on that have no child
-abbrev pub network : Tree → Network
-network t =
-    record {
-      arcs = length (t .parents);
-      parent = ofArc (t .parents);
-      member = λ v. not (hasChild (t .parents) v);
-      cost = ofArc (t .costs);
-    }
+-- a list of marks, one for each vertex from 1 on: vertex v is marked where its entry is 1
+abbrev pub marked : List ℕ → ℕ → Bool
+marked marks v = eqb (ofArc marks v) 1
 
--- the network of a parent list and a cost list
-abbrev pub networkOf : List ℕ → List ℕ → Network
-networkOf parents costs = network (treeOf parents costs)
+-- the marks of the dead ends, the vertices that have no child
+unfoldable pub deadEnds : List ℕ → List ℕ
+deadEnds parents = list (length parents) (λ v. pick (not (hasChild parents v)) 1)
+
+-- the network of a list of parents, of costs and of marks: its members are the marked vertices
+abbrev pub networkOf : List ℕ → List ℕ → List ℕ → Network
+networkOf parents costs marks =
+    record { arcs = length parents; parent = ofArc parents; member = marked marks; cost = ofArc costs }
+
+-- the members of a tree are its dead ends
+abbrev pub network : Tree → Network
+network t = networkOf (t .parents) (t .costs) (deadEnds (t .parents))

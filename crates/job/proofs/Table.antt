@@ -1,7 +1,7 @@
 -- The table, by evaluation.
 use mathlib.Core.Path.{refl}
 use Rattle.basics.specs.Sum.{entries}
-use Rattle.game.specs.Tree.{hasChild}
+use Rattle.game.specs.Tree.{hasChild, deadEnds}
 use Rattle.answers.specs.Checks.{arcsCheck, treeCheck, rangeCheck}
 use Rattle.job_bytes.specs.Numbers.{littleEndian}
 use Rattle.numbers.specs.Signed.{signed64}
@@ -12,7 +12,7 @@ use Rattle.job.specs.Reader.{readCheck, jobAnswer, jobLists}
 use Rattle.job.specs.Table.{JobTable}
 
 pub table : JobTable
-unfolding hasChild arcsCheck treeCheck rangeCheck littleEndian signed64 entries arcOffset memberOffset
+unfolding hasChild deadEnds arcsCheck treeCheck rangeCheck littleEndian signed64 entries arcOffset memberOffset
     jobArcs jobMembers version formCheck fillersFrom sharesCheck valuesCheck jobCheck readCheck jobAnswer jobLists
 table =
     record {

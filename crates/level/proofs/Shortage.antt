@@ -12,6 +12,7 @@ use Rattle.game.specs.Network.{Network, sumBelow, need, memberCount}
 use Rattle.game.specs.Tree.{networkOf}
 use Rattle.basics.proofs.Bools.{both}
 use Rattle.basics.proofs.Lists.{list-at}
+use Rattle.tree.specs.Passes.{networkAt}
 use Rattle.answers.specs.Level.{split, capSum, shortArc, splitOr9}
 use Rattle.level.specs.Found.{answerOf, shortAt, _orElse_, shortFrom}
 use Rattle.level.specs.declared.short.CapsFound.{CapsFound}
@@ -50,20 +51,15 @@ module _ (n : Network) (caps : List ℕ) (m : ℕ) where
       (short-arcs k (omega arith)))
       (both (ltb (capSum n caps (suc k)) (need n (suc k))))
 
--- costs do not decide what the caps add up to
-cap-sums-costs : (parents costs caps : List ℕ) (m : ℕ)
-    → list m (capSum (networkOf parents []) caps) ≡ list m (capSum (networkOf parents costs) caps)
+-- the lists that the passes wrote: who is a member does not decide the needs, nor costs what the caps add up to
+pub short-answer : (parents costs vertices caps needs sums : List ℕ) → length needs ≡ length parents
+    → needs ≡ list (length parents) (need (networkOf parents costs []))
+    → sums ≡ list (length parents) (capSum (networkAt parents [] vertices) caps)
+    → let n = networkAt parents costs vertices in
+    shortFrom (memberCount n) needs sums (length needs) ≡ splitOr9 n caps (shortArc n caps (length parents))
 unfolding sumBelow
-cap-sums-costs parents costs caps m = refl
-
--- the lists that the passes wrote
-pub short-answer : (parents costs caps needs sums : List ℕ) → length needs ≡ length parents
-    → needs ≡ list (length parents) (need (networkOf parents costs))
-    → sums ≡ list (length parents) (capSum (networkOf parents []) caps)
-    → shortFrom (memberCount (networkOf parents costs)) needs sums (length needs)
-    ≡ splitOr9 (networkOf parents costs) caps (shortArc (networkOf parents costs) caps (length parents))
-short-answer parents costs caps needs sums l n s =
-    ap (shortFrom (memberCount (networkOf parents costs)) needs sums) l
-    ∙ ap₂ (λ (a b : List ℕ). shortFrom (memberCount (networkOf parents costs)) a b (length parents)) n
-    (s ∙ cap-sums-costs parents costs caps (length parents))
-    ∙ short-arcs (networkOf parents costs) caps (length parents) (length parents) (omega arith)
+short-answer parents costs vertices caps needs sums l n s =
+    let net = networkAt parents costs vertices in
+    ap (shortFrom (memberCount net) needs sums) l
+    ∙ ap₂ (λ (a b : List ℕ). shortFrom (memberCount net) a b (length parents)) n s
+    ∙ short-arcs net caps (length parents) (length parents) (omega arith)

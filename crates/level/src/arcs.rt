@@ -3,31 +3,34 @@ use limits::MOST_ARCS;
 ghost use mathlib.Core.Path.{_≡_};
 ghost use mathlib.Core.List.{[]};
 ghost use lib.ListN.{length};
-ghost use Rattle.game.specs.Network.{memberCount, members};
-ghost use Rattle.game.specs.Tree.{treeOf, networkOf, ofArc};
+ghost use Rattle.game.specs.Network.{memberCount};
+ghost use Rattle.game.specs.Tree.{ofArc};
 ghost use Rattle.game.specs.Level.{level};
-ghost use Rattle.answer_forms.specs.Answer.{accepted};
-ghost use Rattle.answers.specs.Checks.{treeCheck};
-ghost use Rattle.tree.specs.Passes.{Capped};
+ghost use Rattle.tree.specs.Passes.{Sound, Costed, Listed, Capped, networkAt};
 ghost use Rattle.answers.specs.Level.{shortArc};
 ghost use Rattle.users.specs.Users.{LaidOut};
 
-// Over the members laid out so that the users of each arc stand side by side.
+// Over the members laid out so that the users of each arc stand side by side. `vertices` is there for the contract,
+// which says by it who they are.
 fn give_out(
     parents: &[u16],
     costs: &[u32],
+    vertices: &[u16],
     caps: &[u64],
     starts: &[u64],
     counts: &[u64],
     order: &[u16],
     shares: &mut [u64],
 )
-    requires { ⌜ treeCheck (treeOf (now parents) (now costs)) ≡ accepted ⌝ }
-    requires { ⌜ Capped (memberCount (networkOf (now parents) [])) (now caps) ⌝ }
-    requires { ⌜ length (now shares) ≡ memberCount (networkOf (now parents) []) ⌝ }
-    requires { ⌜ shortArc (networkOf (now parents) (now costs)) (now caps) (length (now parents)) ≡ 0 ⌝ }
-    requires { ⌜ LaidOut (networkOf (now parents) []) (now starts) (now counts) (now order) ⌝ }
-    ensures { λ _. ⌜ now (shares .exit) ≡ level (networkOf (now (parents .entry)) (now (costs .entry)))
+    requires { ⌜ Sound (now parents) ⌝ }
+    requires { ⌜ Costed (now parents) (now costs) ⌝ }
+    requires { ⌜ Capped (memberCount (networkAt (now parents) [] (now vertices))) (now caps) ⌝ }
+    requires { ⌜ length (now shares) ≡ memberCount (networkAt (now parents) [] (now vertices)) ⌝ }
+    requires { ⌜ shortArc (networkAt (now parents) (now costs) (now vertices))
+        (now caps) (length (now parents)) ≡ 0 ⌝ }
+    requires { ⌜ LaidOut (networkAt (now parents) [] (now vertices)) (now starts) (now counts) (now order) ⌝ }
+    ensures { λ _. ⌜ now (shares .exit)
+        ≡ level (networkAt (now (parents .entry)) (now (costs .entry)) (now (vertices .entry)))
         (now (caps .entry)) (ofArc (now (costs .entry))) ⌝ }
 {
     tree::write_all(shares, 0);
@@ -51,20 +54,32 @@ fn split_laid_out(
     order: &mut [u16],
     shares: &mut [u64],
 )
-    requires { ⌜ treeCheck (treeOf (now parents) (now costs)) ≡ accepted ⌝ }
-    requires { ⌜ now vertices ≡ members (networkOf (now parents) []) ⌝ }
+    requires { ⌜ Sound (now parents) ⌝ }
+    requires { ⌜ Costed (now parents) (now costs) ⌝ }
+    requires { ⌜ Listed (now parents) (now vertices) ⌝ }
     requires { ⌜ Capped (length (now vertices)) (now caps) ⌝ }
     requires { ⌜ length (now shares) ≡ length (now vertices) ⌝ }
-    requires { ⌜ shortArc (networkOf (now parents) (now costs)) (now caps) (length (now parents)) ≡ 0 ⌝ }
+    requires { ⌜ shortArc (networkAt (now parents) (now costs) (now vertices))
+        (now caps) (length (now parents)) ≡ 0 ⌝ }
     requires { ⌜ length (now starts) ≡ length (now parents) ⌝ }
     requires { ⌜ length (now counts) ≡ length (now parents) ⌝ }
     requires { ⌜ length (now order) ≡ length (now vertices) ⌝ }
-    ensures { λ _. ⌜ now (shares .exit) ≡ level (networkOf (now (parents .entry)) (now (costs .entry)))
+    ensures { λ _. ⌜ now (shares .exit)
+        ≡ level (networkAt (now (parents .entry)) (now (costs .entry)) (now (vertices .entry)))
         (now (caps .entry)) (ofArc (now (costs .entry))) ⌝ }
 {
     tree::write_user_counts(parents, vertices, shares, counts);
     users::lay_out(parents, vertices, counts, starts, order);
-    give_out(parents, costs, caps, starts, counts, order, shares);
+    give_out(
+        parents,
+        costs,
+        vertices,
+        caps,
+        starts,
+        counts,
+        order,
+        shares,
+    );
 }
 
 pub fn write_level(
@@ -74,12 +89,15 @@ pub fn write_level(
     caps: &[u64],
     shares: &mut [u64],
 )
-    requires { ⌜ treeCheck (treeOf (now parents) (now costs)) ≡ accepted ⌝ }
-    requires { ⌜ now vertices ≡ members (networkOf (now parents) []) ⌝ }
+    requires { ⌜ Sound (now parents) ⌝ }
+    requires { ⌜ Costed (now parents) (now costs) ⌝ }
+    requires { ⌜ Listed (now parents) (now vertices) ⌝ }
     requires { ⌜ Capped (length (now vertices)) (now caps) ⌝ }
     requires { ⌜ length (now shares) ≡ length (now vertices) ⌝ }
-    requires { ⌜ shortArc (networkOf (now parents) (now costs)) (now caps) (length (now parents)) ≡ 0 ⌝ }
-    ensures { λ _. ⌜ now (shares .exit) ≡ level (networkOf (now (parents .entry)) (now (costs .entry)))
+    requires { ⌜ shortArc (networkAt (now parents) (now costs) (now vertices))
+        (now caps) (length (now parents)) ≡ 0 ⌝ }
+    ensures { λ _. ⌜ now (shares .exit)
+        ≡ level (networkAt (now (parents .entry)) (now (costs .entry)) (now (vertices .entry)))
         (now (caps .entry)) (ofArc (now (costs .entry))) ⌝ }
 {
     let m = parents.len();

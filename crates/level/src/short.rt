@@ -2,13 +2,9 @@
 use limits::MOST_ARCS;
 ghost use mathlib.Core.Path.{_≡_};
 ghost use Prim.Native.Nat.{ℕ};
-ghost use mathlib.Core.List.{[]};
 ghost use lib.ListN.{length};
-ghost use Rattle.game.specs.Network.{members, memberCount};
-ghost use Rattle.game.specs.Tree.{treeOf, networkOf};
-ghost use Rattle.answer_forms.specs.Answer.{accepted};
-ghost use Rattle.answers.specs.Checks.{treeCheck};
-ghost use Rattle.tree.specs.Passes.{Capped};
+ghost use Rattle.game.specs.Network.{memberCount};
+ghost use Rattle.tree.specs.Passes.{Sound, Costed, Listed, Capped, networkAt};
 ghost use Rattle.answers.specs.Level.{shortArc, splitOr9};
 ghost use Rattle.level.specs.Found.{answerOf, shortAt, shortFrom};
 
@@ -57,12 +53,13 @@ fn compare(
     needs: &mut [u64],
     sums: &mut [u64],
 ) -> CapsFound
-    requires { ⌜ treeCheck (treeOf (now parents) (now costs)) ≡ accepted ⌝ }
-    requires { ⌜ now vertices ≡ members (networkOf (now parents) []) ⌝ }
+    requires { ⌜ Sound (now parents) ⌝ }
+    requires { ⌜ Costed (now parents) (now costs) ⌝ }
+    requires { ⌜ Listed (now parents) (now vertices) ⌝ }
     requires { ⌜ Capped (length (now vertices)) (now caps) ⌝ }
     requires { ⌜ length (now needs) ≡ length (now parents) ⌝ }
     requires { ⌜ length (now sums) ≡ length (now parents) ⌝ }
-    ensures { λ r. ⌜ (let n = networkOf (now (parents .entry)) (now (costs .entry)) in
+    ensures { λ r. ⌜ (let n = networkAt (now (parents .entry)) (now (costs .entry)) (now (vertices .entry)) in
         answerOf (memberCount n) r
         ≡ splitOr9 n (now (caps .entry)) (shortArc n (now (caps .entry)) (length (now (parents .entry))))) ⌝ }
 {
@@ -73,10 +70,11 @@ fn compare(
 
 // The needs and the cap sums of all arcs, then the arcs from the last down.
 pub fn find_short(parents: &[u16], costs: &[u32], vertices: &[u16], caps: &[u64]) -> CapsFound
-    requires { ⌜ treeCheck (treeOf (now parents) (now costs)) ≡ accepted ⌝ }
-    requires { ⌜ now vertices ≡ members (networkOf (now parents) []) ⌝ }
+    requires { ⌜ Sound (now parents) ⌝ }
+    requires { ⌜ Costed (now parents) (now costs) ⌝ }
+    requires { ⌜ Listed (now parents) (now vertices) ⌝ }
     requires { ⌜ Capped (length (now vertices)) (now caps) ⌝ }
-    ensures { λ r. ⌜ (let n = networkOf (now (parents .entry)) (now (costs .entry)) in
+    ensures { λ r. ⌜ (let n = networkAt (now (parents .entry)) (now (costs .entry)) (now (vertices .entry)) in
         answerOf (memberCount n) r
         ≡ splitOr9 n (now (caps .entry)) (shortArc n (now (caps .entry)) (length (now (parents .entry))))) ⌝ }
 {

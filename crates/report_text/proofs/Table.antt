@@ -1,7 +1,7 @@
 -- The table, by evaluation.
 use mathlib.Core.Path.{refl}
 use Rattle.game.specs.Network.{climb, used, groupCost, sumBelow, wholeCost, membersTo}
-use Rattle.game.specs.Tree.{hasChild}
+use Rattle.game.specs.Tree.{hasChild, deadEnds}
 use Rattle.basics.specs.Bit.{bit}
 use Rattle.basics.specs.Sum.{size, entries}
 use Rattle.game.specs.Group.{wordsOf}
@@ -24,7 +24,7 @@ use Rattle.report_text.specs.Report.{treeText, splitText, reportText}
 use Rattle.report_text.specs.Table.{ReportTable}
 
 pub table : ReportTable
-unfolding climb used groupCost sumBelow wholeCost membersTo hasChild bit size wordsOf pays groups best named
+unfolding climb used groupCost sumBelow wholeCost membersTo hasChild deadEnds bit size wordsOf pays groups best named
     firstLeast units arcsDown giveArc byArcDown arcsCheck treeCheck rangeCheck verdict auditAnswer auditWords
     shortArc levelAnswer levelList byArcList littleEndian signed64 entries arcOffset memberOffset jobArcs
     jobMembers version formCheck fillersFrom sharesCheck valuesCheck jobCheck decimalIn decimal signedDecimal

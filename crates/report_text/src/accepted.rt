@@ -8,7 +8,7 @@ ghost use mathlib.Core.Path.{_≡_};
 ghost use Prim.Native.Nat.{_+_, _*_, _≤_};
 ghost use lib.ListN.{length};
 ghost use Rattle.game.specs.Network.{memberCount};
-ghost use Rattle.game.specs.Tree.{treeOf, networkOf};
+ghost use Rattle.game.specs.Tree.{treeOf, network};
 ghost use Rattle.answer_forms.specs.Answer.{accepted};
 ghost use Rattle.answers.specs.Checks.{treeCheck};
 ghost use Rattle.text.specs.Put.{Put};
@@ -29,7 +29,7 @@ fn put_cost(parents: &[u16], costs: &[u32], needs: &mut [u64], out: &mut [u8], a
 // The lines on the tree and the proposal.
 fn put_tree(parents: &[u16], costs: &[u32], proposed: &[i64], out: &mut [u8], at: usize) -> usize
     requires { ⌜ treeCheck (treeOf (now parents) (now costs)) ≡ accepted ⌝ }
-    requires { ⌜ length (now proposed) ≡ memberCount (networkOf (now parents) (now costs)) ⌝ }
+    requires { ⌜ length (now proposed) ≡ memberCount (network (treeOf (now parents) (now costs))) ⌝ }
     requires { ⌜ at + 22100 ≤ length (now out) ⌝ }
     ensures { λ r. ⌜ Put (now (out .entry)) at
         (treeText (treeOf (now (parents .entry)) (now (costs .entry))) (now (proposed .entry))) (now (out .exit)) r ⌝ }
@@ -59,7 +59,7 @@ fn put_splits(
     at: usize,
 ) -> usize
     requires { ⌜ treeCheck (treeOf (now parents) (now costs)) ≡ accepted ⌝ }
-    requires { ⌜ length (now proposed) ≡ memberCount (networkOf (now parents) (now costs)) ⌝ }
+    requires { ⌜ length (now proposed) ≡ memberCount (network (treeOf (now parents) (now costs))) ⌝ }
     requires { ⌜ now vertices ≡ blank (treeOf (now parents) (now costs)) ⌝ }
     requires { ⌜ now «by_arc» ≡ blank (treeOf (now parents) (now costs)) ⌝ }
     requires { ⌜ now shares ≡ blank (treeOf (now parents) (now costs)) ⌝ }
@@ -84,7 +84,7 @@ pub fn put_job(
     out: &mut [u8],
 ) -> usize
     requires { ⌜ treeCheck (treeOf (now parents) (now costs)) ≡ accepted ⌝ }
-    requires { ⌜ length (now proposed) ≡ memberCount (networkOf (now parents) (now costs)) ⌝ }
+    requires { ⌜ length (now proposed) ≡ memberCount (network (treeOf (now parents) (now costs))) ⌝ }
     requires { ⌜ 190000 ≤ length (now out) ⌝ }
     ensures { λ r. ⌜ Put (now (out .entry)) 0
         (jobText (treeOf (now (parents .entry)) (now (costs .entry))) (now (caps .entry)) (now (proposed .entry)))

@@ -1,4 +1,4 @@
 mod ExcessPass
-mod MarkPass
+mod ActivePass
 mod Bound
 mod NamedGroup

@@ -2,8 +2,8 @@ pub mod Carry
 pub mod Bounds
 pub mod MemberPass
 mod SumPass
-pub mod Filling
 pub mod CapPass
+pub mod UsePass
 mod GroupPass
 pub mod Vertices
 mod UserCounts

@@ -20,7 +20,7 @@ use Rattle.tree.proofs.Carry.{amounts, child, Carried, carried-start, c
 module _ (ps xs : List ℕ) where
   -- an arc's entry and those of all arcs below it
   abbrev pub total : ℕ → ℕ
-  total = sumBelow (networkOf ps []) (ofArc xs)
+  total = sumBelow (networkOf ps [] []) (ofArc xs)
 
   -- with the arcs 1 to k still to come: the places from k on hold sums, those below k their entries
   pub record Summing (out below : List ℕ) (k : ℕ) : Type 0 where
@@ -50,7 +50,7 @@ module _ (ps xs : List ℕ) where
           arith,
           s .carried .lacks 0 (omega arith),
           ap (λ (i : ℕ). sum i (child amounts ps total 0)) e,
-          sum-from-source (networkOf ps []) (sound .rising) (ofArc xs),
+          sum-from-source (networkOf ps [] []) (sound .rising) (ofArc xs),
         )
 
     module _ (k j : ℕ) (within : k ≤ length ps) (next : k ≡ suc j) {out below : List ℕ} (s : Summing out below k) where
@@ -65,11 +65,11 @@ module _ (ps xs : List ℕ) where
             arith,
             s .waiting j (omega arith),
             carried-at amounts ps total sound j (omega arith) below here,
-            sum-below-children (networkOf ps []) (sound .rising) (ofArc xs) (suc j) (omega arith),
+            sum-below-children (networkOf ps [] []) (sound .rising) (ofArc xs) (suc j) (omega arith),
           ))
 
       pub summing-fits : (w : ℕ) → w ≡ total k → w ≤ sum (length ps) (ofArc xs)
-      summing-fits w e = omega (arith, sum-below-le (networkOf ps []) (ofArc xs) k)
+      summing-fits w e = omega (arith, sum-below-le (networkOf ps [] []) (ofArc xs) k)
 
       pub summing-carry : (w : ℕ) → w ≡ total k → getD below (getD ps j 0) 0 + w ≤ sum (length ps) (ofArc xs)
       summing-carry w e =
@@ -78,7 +78,7 @@ module _ (ps xs : List ℕ) where
             here .lacks (getD ps j 0) (omega (arith, sound .rising j, sound .few)),
             pick-yes (total (suc j)) (eq-eqb (getD ps j 0) (getD ps j 0) refl),
             ap total next,
-            children-le (networkOf ps []) (sound .rising) (ofArc xs) (getD ps j 0) (omega (arith, sound .rising j)),
+            children-le (networkOf ps [] []) (sound .rising) (ofArc xs) (getD ps j 0) (omega (arith, sound .rising j)),
           )
 
       pub summing-on : (w : ℕ) → w ≡ total k

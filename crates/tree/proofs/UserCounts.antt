@@ -1,13 +1,12 @@
 -- The cap sums where every cap is 1 are the numbers of users.
 use Prim.Native.Nat.{ℕ}
 use mathlib.Core.Path.{_≡_, sym, ap, _∙_, fun-ext}
-use mathlib.Core.List.{List, []}
+use mathlib.Core.List.{List}
 use native.Mathlib.Decide.{decLt}
 use native.Mathlib.Omega.{arith}
 use lib.ListN.{length, getD, replicate, length-replicate, getD-replicate, List·getD-eq-default}
 use Rattle.basics.specs.Sum.{pick, list, size}
-use Rattle.game.specs.Network.{memberCount}
-use Rattle.game.specs.Tree.{networkOf}
+use Rattle.game.specs.Network.{Network, memberCount}
 use Rattle.game.specs.Core.{users}
 use Rattle.game.specs.ByArc.{userCount}
 use Rattle.basics.proofs.Sums.{sum₀-cong}
@@ -33,13 +32,11 @@ module _ {ones : List ℕ} {k : ℕ} (are : ones ≡ replicate k 1) where
             ];
       })
 
-  pub ones-count : (ps : List ℕ) → k ≡ memberCount (networkOf ps [])
-      → list (length ps) (capSum (networkOf ps []) ones) ≡ list (length ps) (userCount (networkOf ps []))
+  pub ones-count : (n : Network) → k ≡ memberCount n → list (n .arcs) (capSum n ones) ≡ list (n .arcs) (userCount n)
   unfolding size
-  ones-count ps e =
-      let n = networkOf ps [] in
+  ones-count n e =
       rw (are, e)
-      (ap (list (length ps))
+      (ap (list (n .arcs))
       (fun-ext
       (λ a.
       sym (users-by-vertex n (λ j. getD (replicate (memberCount n) 1) j 0) a)

@@ -5,19 +5,18 @@ ghost use mathlib.Core.Path.{_≡_};
 ghost use mathlib.Core.List.{[]};
 ghost use lib.ListN.{length};
 ghost use Rattle.basics.specs.Sum.{list};
-ghost use Rattle.game.specs.Network.{members};
-ghost use Rattle.game.specs.Tree.{networkOf};
-ghost use Rattle.tree.specs.Passes.{Capped, Sound};
+ghost use Rattle.tree.specs.Passes.{Sound, Listed, Capped, networkAt};
 ghost use Rattle.answers.specs.Level.{capSum};
 
 // Writes for each arc what the caps of its users add up to.
 pub fn write_cap_sums(parents: &[u16], vertices: &[u16], caps: &[u64], out: &mut [u64])
     requires { ⌜ Sound (now parents) ⌝ }
-    requires { ⌜ now vertices ≡ members (networkOf (now parents) []) ⌝ }
+    requires { ⌜ Listed (now parents) (now vertices) ⌝ }
     requires { ⌜ Capped (length (now vertices)) (now caps) ⌝ }
     requires { ⌜ length (now out) ≡ length (now parents) ⌝ }
     ensures { λ _. ⌜ now (out .exit)
-        ≡ list (length (now (parents .entry))) (capSum (networkOf (now (parents .entry)) []) (now (caps .entry))) ⌝ }
+        ≡ list (length (now (parents .entry)))
+        (capSum (networkAt (now (parents .entry)) [] (now (vertices .entry))) (now (caps .entry))) ⌝ }
 {
     write_all(out, 0);
     let mut j = 0;

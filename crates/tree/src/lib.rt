@@ -1,4 +1,4 @@
-// Passes over an accepted tree. Those that gather at the parents go from arc m down to arc 1, so that an arc is met
+// Passes over a tree. Those that gather at the parents go from arc m down to arc 1, so that an arc is met
 // after all arcs below it. Arrays are indexed by vertex, place 0 for the source.
 mod caps;
 mod constant;
@@ -14,7 +14,7 @@ pub use constant::write_all;
 pub use counts::write_user_counts;
 pub use group::cost_of;
 pub use members::count_members;
-pub use members::one_if_member;
+pub use members::one_if_marked;
 pub use members::write_members;
 pub use needs::write_needs;
 pub use whole::whole_cost;

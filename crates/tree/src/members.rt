@@ -1,65 +1,58 @@
-// The members: the vertices from 1 on that have no child. Costs do not decide who is a member.
-use limits::MOST_ARCS;
+// The members: the marked vertices.
 ghost use mathlib.Core.Path.{_≡_};
-ghost use Prim.Native.Nat.{_≤_, _-_};
-ghost use mathlib.Core.Bool.{not, cond, false};
-ghost use mathlib.Core.List.{[]};
+ghost use Prim.Native.Nat.{_+_, _<_, _≤_};
+ghost use mathlib.Core.Bool.{cond, true};
 ghost use lib.ListN.{length, set};
-ghost use Rattle.basics.specs.Sum.{pick};
-ghost use Rattle.game.specs.Network.{memberCount, members};
-ghost use Rattle.game.specs.Tree.{networkOf};
-ghost use Rattle.tree.specs.Passes.{Sound};
+ghost use lib.Dec.{eqb};
+ghost use Rattle.basics.specs.Sum.{pick, count};
+ghost use Rattle.limits.specs.Limits.{mostArcs};
+ghost use Rattle.game.specs.Network.{membersTo};
+ghost use Rattle.game.specs.Tree.{marked};
 
-// 1 for a member, which has no child, else 0.
-pub fn one_if_member(has_child: bool) -> usize
-    ensures { λ r. ⌜ r ≡ pick (not «has_child») 1 ⌝ }
+// 1 for a mark of 1, else 0.
+pub fn one_if_marked(mark: u16) -> usize
+    ensures { λ r. ⌜ r ≡ pick (eqb mark 1) 1 ⌝ }
 {
-    if has_child { 0 } else { 1 }
+    if mark == 1 { 1 } else { 0 }
 }
 
 // The number of members.
-pub fn count_members(parents: &[u16]) -> usize
-    requires { ⌜ Sound (now parents) ⌝ }
-    ensures { λ r. ⌜ r ≡ memberCount (networkOf (now (parents .entry)) []) ⌝ }
+pub fn count_members(marks: &[u16]) -> usize
+    ensures { λ r. ⌜ r ≡ count (length (now (marks .entry))) (marked (now (marks .entry))) ⌝ }
 {
-    let mut has_child = [false; MOST_ARCS + 1];
     let mut n = 0;
-    let mut k = parents.len() + 1;
-    while k > 1 {
-        k -= 1;
-        n += one_if_member(has_child[k]);
-        has_child[parents[k - 1] as usize] = true;
+    let mut i = 0;
+    while i < marks.len() {
+        n += one_if_marked(marks[i]);
+        i += 1;
     }
     n
 }
 
-// Writes vertex k before place j where it is a member; answers the place that is next.
-fn place_member(out: &mut [u16], j: usize, k: u16, has_child: bool) -> usize
-    requires { ⌜ j ≤ length (now out) ⌝ }
-    requires { ⌜ («has_child» ≡ false → 1 ≤ j) ⌝ }
-    ensures { λ r. ⌜ r ≡ j - pick (not «has_child») 1 ⌝ }
-    ensures { λ _. ⌜ now (out .exit)
-        ≡ cond «has_child» (now (out .entry)) (set (now (out .entry)) (j - 1) k) ⌝ }
+// Writes vertex v at place j where its mark is 1; answers the place that is next.
+fn place_member(out: &mut [u16], j: usize, v: u16, mark: u16) -> usize
+    requires { ⌜ j ≤ mostArcs ⌝ }
+    requires { ⌜ (eqb mark 1 ≡ true → j < length (now out)) ⌝ }
+    ensures { λ r. ⌜ r ≡ j + pick (eqb mark 1) 1 ⌝ }
+    ensures { λ _. ⌜ now (out .exit) ≡ cond (eqb mark 1) (set (now (out .entry)) j v) (now (out .entry)) ⌝ }
 {
-    if has_child {
-        return j;
+    if mark == 1 {
+        out[j] = v;
+        return j + 1;
     }
-    out[j - 1] = k;
-    j - 1
+    j
 }
 
 // Writes the members' vertices in rising order.
-pub fn write_members(parents: &[u16], out: &mut [u16])
-    requires { ⌜ Sound (now parents) ⌝ }
-    requires { ⌜ length (now out) ≡ memberCount (networkOf (now parents) []) ⌝ }
-    ensures { λ _. ⌜ now (out .exit) ≡ members (networkOf (now (parents .entry)) []) ⌝ }
+pub fn write_members(marks: &[u16], out: &mut [u16])
+    requires { ⌜ length (now marks) ≤ mostArcs ⌝ }
+    requires { ⌜ length (now out) ≡ count (length (now marks)) (marked (now marks)) ⌝ }
+    ensures { λ _. ⌜ now (out .exit) ≡ membersTo (marked (now (marks .entry))) (length (now (marks .entry))) ⌝ }
 {
-    let mut has_child = [false; MOST_ARCS + 1];
-    let mut j = out.len();
-    let mut k = parents.len() + 1;
-    while k > 1 {
-        k -= 1;
-        j = place_member(out, j, k as u16, has_child[k]);
-        has_child[parents[k - 1] as usize] = true;
+    let mut j = 0;
+    let mut i = 0;
+    while i < marks.len() {
+        j = place_member(out, j, (i + 1) as u16, marks[i]);
+        i += 1;
     }
 }

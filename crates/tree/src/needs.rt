@@ -1,12 +1,12 @@
 // The needs of all arcs: their costs, added up from below.
 use crate::sums::add_up;
 ghost use mathlib.Core.Path.{_≡_};
+ghost use mathlib.Core.List.{[]};
 ghost use lib.ListN.{length};
 ghost use Rattle.basics.specs.Sum.{list};
 ghost use Rattle.game.specs.Network.{need, wholeCost};
-ghost use Rattle.game.specs.Tree.{treeOf, networkOf};
-ghost use Rattle.answer_forms.specs.Answer.{accepted};
-ghost use Rattle.answers.specs.Checks.{treeCheck};
+ghost use Rattle.game.specs.Tree.{networkOf};
+ghost use Rattle.tree.specs.Passes.{Sound, Costed};
 
 // Copies the costs.
 fn widen(costs: &[u32], out: &mut [u64])
@@ -22,11 +22,12 @@ fn widen(costs: &[u32], out: &mut [u64])
 
 // Writes the need of each arc; answers the whole cost.
 pub fn write_needs(parents: &[u16], costs: &[u32], out: &mut [u64]) -> u64
-    requires { ⌜ treeCheck (treeOf (now parents) (now costs)) ≡ accepted ⌝ }
+    requires { ⌜ Sound (now parents) ⌝ }
+    requires { ⌜ Costed (now parents) (now costs) ⌝ }
     requires { ⌜ length (now out) ≡ length (now parents) ⌝ }
-    ensures { λ r. ⌜ r ≡ wholeCost (networkOf (now (parents .entry)) (now (costs .entry))) ⌝ }
+    ensures { λ r. ⌜ r ≡ wholeCost (networkOf (now (parents .entry)) (now (costs .entry)) []) ⌝ }
     ensures { λ _. ⌜ now (out .exit)
-        ≡ list (length (now (parents .entry))) (need (networkOf (now (parents .entry)) (now (costs .entry)))) ⌝ }
+        ≡ list (length (now (parents .entry))) (need (networkOf (now (parents .entry)) (now (costs .entry)) [])) ⌝ }
 {
     widen(costs, out);
     add_up(parents, out)

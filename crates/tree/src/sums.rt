@@ -17,7 +17,7 @@ pub fn add_up(parents: &[u16], out: &mut [u64]) -> u64
     requires { ⌜ sum (length (now out)) (ofArc (now out)) ≤ 9223372036854775807 ⌝ }
     ensures { λ r. ⌜ r ≡ sum (length (now (out .entry))) (ofArc (now (out .entry))) ⌝ }
     ensures { λ _. ⌜ now (out .exit) ≡ list (length (now (parents .entry)))
-        (sumBelow (networkOf (now (parents .entry)) []) (ofArc (now (out .entry)))) ⌝ }
+        (sumBelow (networkOf (now (parents .entry)) [] []) (ofArc (now (out .entry)))) ⌝ }
 {
     let mut below = [0u64; MOST_ARCS + 1];
     let mut k = parents.len() + 1;

@@ -8,8 +8,8 @@ use lib.ListN.{length, getD, take, drop}
 use lib.Seq.{drop-cons}
 use lib.Dec.{eqb}
 use Rattle.basics.specs.Sum.{pick, list, sum₀}
-use Rattle.game.specs.Network.{Network, atOrBelow, memberCount, members}
-use Rattle.game.specs.Tree.{treeOf, networkOf, ofArc}
+use Rattle.game.specs.Network.{Network, atOrBelow, memberCount}
+use Rattle.game.specs.Tree.{ofArc}
 use Rattle.game.specs.Core.{users}
 use Rattle.game.specs.ByArc.{userCount}
 use Rattle.basics.proofs.Bools.{pick-yes}
@@ -19,14 +19,13 @@ use Rattle.basics.proofs.Lists.{list-length, list-at}
 use Rattle.game.proofs.ArcEntries.{of-list}
 use Rattle.game.proofs.Below.{below-self}
 use Rattle.game.proofs.Shapley.{user-count-pos}
-use Rattle.answers.proofs.CoreLaws.{members-end}
-use Rattle.tree.specs.Passes.{Sound}
+use Rattle.tree.specs.Passes.{Sound, Listed, networkAt}
 use Rattle.tree.proofs.CapPass.{member-in}
 use Rattle.users.specs.Users.{total, LaidOut}
 use Rattle.users.specs.Layout.{Counts, Begins, Begun, slot, Apart, Ordered}
 use Rattle.users.proofs.UserSums.{vertex, over-members, over-users}
 use Rattle.users.proofs.Walk.{before, arc-filled, all-filled, arc-within}
-use Rattle.tree.proofs.Vertices.{vertices-count, vertices-few}
+use Rattle.tree.proofs.Vertices.{vertices-count, vertices-few, listed-end}
 
 -- the sum over a part of a list
 part-total : (g : ℕ → ℕ) (l : List ℕ) (c a : ℕ) → a + c ≤ length l
@@ -43,10 +42,10 @@ two-terms n i j f less high =
     omega (arith, term₀-le j i f less, sum₀-is j f, sum₀-is n f, sum-longer (suc j) n (λ k. f (pred k)) high)
 
 -- the numbers of users as they are handed in
-pub user-counts : (ps : List ℕ) → Sound ps → {counts : List ℕ}
-    → counts ≡ list (length ps) (userCount (networkOf ps [])) → Counts (length ps) counts
-user-counts ps sound e =
-    let n = networkOf ps [] in
+pub user-counts : (ps vertices : List ℕ) → Sound ps → {counts : List ℕ}
+    → counts ≡ list (length ps) (userCount (networkAt ps [] vertices)) → Counts (length ps) counts
+user-counts ps vertices sound e =
+    let n = networkAt ps [] vertices in
     rw e
     (record {
       sized = list-length (userCount n) (length ps);
@@ -61,11 +60,11 @@ user-counts ps sound e =
           );
     })
 
-module _ (ps counts starts : List ℕ) (sound : Sound ps)
-    (counted : counts ≡ list (length ps) (userCount (networkOf ps [])))
+module _ (ps vertices counts starts : List ℕ) (sound : Sound ps)
+    (counted : counts ≡ list (length ps) (userCount (networkAt ps [] vertices)))
     (begun : Begun ps counts starts) where
   abbrev net : Network
-  net = networkOf ps []
+  net = networkAt ps [] vertices
 
   count-of : (k : ℕ) → In (length ps) k → ofArc counts k ≡ userCount net k
   count-of k i = ap (λ (l : List ℕ). ofArc l k) counted ∙ of-list (length ps) (userCount net) k i
@@ -84,23 +83,24 @@ module _ (ps counts starts : List ℕ) (sound : Sound ps)
   arc-reach : (k : ℕ) → In (length ps) k → ofArc starts k + ofArc counts k ≤ memberCount net
   arc-reach k i = omega (arith, arc-within net (ofArc starts) (sound .rising) begins k i, count-of k i)
 
-  module _ {vertices : List ℕ} (are : vertices ≡ members net) where
+  module _ (listing : Listed ps vertices) where
     -- the members' places are those below their number
     slots : (g : ℕ → ℕ) → sum₀ (memberCount net) (λ j. g (slot vertices starts j)) ≡ before g (memberCount net)
     slots g =
-        rw are
-        (over-members net (λ v. g (ofArc starts v))
-        ∙ all-filled net (ofArc starts) (sound .rising) begins (members-end (treeOf ps [])) g)
+        ap (λ (l : List ℕ). sum₀ (memberCount net) (λ j. g (slot l starts j))) (listing .are)
+        ∙ over-members net (λ v. g (ofArc starts v))
+        ∙ all-filled net (ofArc starts) (sound .rising) begins (listed-end ps vertices listing []) g
 
     slot-within : (j : ℕ) → j < length vertices → slot vertices starts j < memberCount net
     slot-within j h =
         let v = getD vertices j 0 in
         omega (
           arith,
-          arc-reach v (member-in net are j h),
-          count-of v (member-in net are j h),
-          user-count-pos net v j (omega (arith, vertices-count ps vertices are))
-              (ap (λ (l : List ℕ). atOrBelow net v (getD l j 0)) (sym are) ∙ below-self net (sound .rising) v),
+          arc-reach v (member-in net (listing .are) j h),
+          count-of v (member-in net (listing .are) j h),
+          user-count-pos net v j (omega (arith, vertices-count ps vertices listing))
+              (ap (λ (l : List ℕ). atOrBelow net v (getD l j 0)) (sym (listing .are))
+              ∙ below-self net (sound .rising) v),
         )
 
     -- two members at one place would count it twice
@@ -110,7 +110,7 @@ module _ (ps counts starts : List ℕ) (sound : Sound ps)
         let g : ℕ → ℕ = λ t. pick (eqb (s j) t) 1 in
         omega (
           arith,
-          two-terms (memberCount net) i j (λ u. g (s u)) less (omega (arith, vertices-count ps vertices are)),
+          two-terms (memberCount net) i j (λ u. g (s u)) less (omega (arith, vertices-count ps vertices listing)),
           slots g,
           sum₀-at (memberCount net) (s j) (λ t. 1) (slot-within j h),
           pick-yes 1 (eq-eqb (s j) (s i) (sym e)),
@@ -120,16 +120,16 @@ module _ (ps counts starts : List ℕ) (sound : Sound ps)
     pub members-apart : Apart vertices starts
     members-apart =
         record {
-          few = vertices-few ps vertices are sound;
-          first = λ j h. member-in net are j h .low;
-          last = λ j h. omega (arith, member-in net are j h .high, begun .kept);
-          within = λ j h. omega (arith, slot-within j h, vertices-count ps vertices are);
+          few = vertices-few ps vertices listing sound;
+          first = λ j h. member-in net (listing .are) j h .low;
+          last = λ j h. omega (arith, member-in net (listing .are) j h .high, begun .kept);
+          within = λ j h. omega (arith, slot-within j h, vertices-count ps vertices listing);
           apart = slots-apart;
         }
 
     module _ {order : List ℕ} (sized : length order ≡ length vertices) (ordered : Ordered vertices starts order) where
       part-within : (k : ℕ) → In (length ps) k → ofArc starts k + ofArc counts k ≤ length order
-      part-within k i = omega (arith, arc-reach k i, vertices-count ps vertices are)
+      part-within k i = omega (arith, arc-reach k i, vertices-count ps vertices listing)
 
       -- what stands at the users' places are their numbers
       at-slots : (g : ℕ → ℕ) (k : ℕ)
@@ -139,15 +139,15 @@ module _ (ps counts starts : List ℕ) (sound : Sound ps)
           sum₀-cong (memberCount net)
           (λ j h.
           ap (λ (u : ℕ). pick (users net k j) (g u))
-          (ap (λ (l : List ℕ). getD order (slot l starts j) 0) (sym are)
-          ∙ ordered .placed j (omega (arith, vertices-count ps vertices are))))
+          (ap (λ (l : List ℕ). getD order (slot l starts j) 0) (sym (listing .are))
+          ∙ ordered .placed j (omega (arith, vertices-count ps vertices listing))))
 
       pub laid-out : LaidOut net starts counts order
       laid-out =
           record {
             starts-sized = begun .kept;
-            counts-sized = user-counts ps sound counted .sized;
-            order-sized = sized ∙ vertices-count ps vertices are;
+            counts-sized = user-counts ps vertices sound counted .sized;
+            order-sized = sized ∙ vertices-count ps vertices listing;
             within = λ k low high. part-within k (omega arith);
             lists =
                 λ k low high.
@@ -157,7 +157,7 @@ module _ (ps counts starts : List ℕ) (sound : Sound ps)
                       omega (
                         arith,
                         part-total g order (ofArc counts k) (ofArc starts k) (part-within k (omega arith)),
-                        arc-filled net (ofArc starts) (sound .rising) begins (members-end (treeOf ps []))
+                        arc-filled net (ofArc starts) (sound .rising) begins (listed-end ps vertices listing [])
                             (λ t. g (getD order t 0)) k (omega arith),
                         ap (λ (c : ℕ). before (λ t. g (getD order t 0)) (ofArc starts k + c))
                             (count-of k (omega arith)),

@@ -4,10 +4,8 @@ ghost use mathlib.Core.Path.{_≡_};
 ghost use mathlib.Core.List.{[]};
 ghost use lib.ListN.{length};
 ghost use Rattle.basics.specs.Sum.{list};
-ghost use Rattle.game.specs.Network.{members};
-ghost use Rattle.game.specs.Tree.{networkOf};
 ghost use Rattle.game.specs.ByArc.{userCount};
-ghost use Rattle.tree.specs.Passes.{Sound};
+ghost use Rattle.tree.specs.Passes.{Sound, Listed, networkAt};
 ghost use Rattle.users.specs.Users.{LaidOut};
 ghost use Rattle.users.specs.Layout.{Counts, Begun, Apart, Ordered};
 
@@ -55,11 +53,12 @@ pub fn lay_out(
     order: &mut [u16],
 )
     requires { ⌜ Sound (now parents) ⌝ }
-    requires { ⌜ now vertices ≡ members (networkOf (now parents) []) ⌝ }
-    requires { ⌜ now counts ≡ list (length (now parents)) (userCount (networkOf (now parents) [])) ⌝ }
+    requires { ⌜ Listed (now parents) (now vertices) ⌝ }
+    requires { ⌜ now counts
+        ≡ list (length (now parents)) (userCount (networkAt (now parents) [] (now vertices))) ⌝ }
     requires { ⌜ length (now starts) ≡ length (now parents) ⌝ }
     requires { ⌜ length (now order) ≡ length (now vertices) ⌝ }
-    ensures { λ _. ⌜ LaidOut (networkOf (now (parents .entry)) [])
+    ensures { λ _. ⌜ LaidOut (networkAt (now (parents .entry)) [] (now (vertices .entry)))
         (now (starts .exit)) (now (counts .entry)) (now (order .exit)) ⌝ }
 {
     write_starts(parents, counts, starts);

@@ -9,20 +9,20 @@ start c = c .before .before .before .before .before .before
 write-starts-requires : tie.Need-write-starts-requires
 write-starts-requires c κs =
     let pre = start c .pre in
-    (pre .0, (user-counts _ (pre .0) (pre .1 .1 .0), pre .1 .1 .1 .0))
+    (pre .0, (user-counts _ _ (pre .0) (pre .1 .1 .0), pre .1 .1 .1 .0))
 
 write-order-requires : tie.Need-write-order-requires
 write-order-requires c κs =
     let begun = c .before .before .before .before in
     let pre = start (begun .before) .pre in
-    (members-apart _ _ _ (pre .0) (pre .1 .1 .0) (begun .write-starts .ensures) (pre .1 .0), pre .1 .1 .1 .1)
+    (members-apart _ _ _ _ (pre .0) (pre .1 .1 .0) (begun .write-starts .ensures) (pre .1 .0), pre .1 .1 .1 .1)
 
 returns : tie.Need-returns
 returns c =
     let ordered = c .before .before in
     let begun = ordered .before .before .before .before .before in
     let pre = start (begun .before) .pre in
-    laid-out _ _ _ (pre .0) (pre .1 .1 .0) (begun .write-starts .ensures) (pre .1 .0) (search needs)
+    laid-out _ _ _ _ (pre .0) (pre .1 .1 .0) (begun .write-starts .ensures) (pre .1 .0) (search needs)
     (ordered .write-order .ensures)
 
 pub lay-out-spec : {M : Type 1} → statement M

@@ -1,8 +1,6 @@
-use mathlib.Core.Path.{_∙_}
-use Rattle.answers.proofs.Accepted.{tree-accepted}
-use Rattle.tree.proofs.Bounds.{sound}
+use mathlib.Core.Path.{sym, _∙_}
 use Rattle.tree.proofs.Vertices.{vertices-count}
-use Rattle.by_arc.proofs.Split.{counts-some, split-parts, split-is}
+use Rattle.by_arc.proofs.Split.{split-parts, split-is}
 use borrow.Author.Needs.{needs}
 use Rattle.by_arc.proofs.arcs.split_in.Statement.{statement}
 use Rattle.by_arc.proofs.arcs.split_in.Tie as tie
@@ -17,26 +15,24 @@ counting c = c .before .before .before .before .before .before .before .before
 write-user-counts-requires : tie.Need-write-user-counts-requires
 write-user-counts-requires c κs =
     let pre = start c .pre in
-    (sound _ (tree-accepted _ (pre .0)), (pre .1 .0, (pre .1 .1 .0, pre .1 .1 .1 .0)))
+    (pre .0, (pre .1 .1 .0, (pre .1 .1 .1 .0, pre .1 .1 .1 .1 .0)))
 
 divide-requires : tie.Need-divide-requires
 divide-requires c κs =
     let counted = c .before .before .before .before .before .before .before in
     let pre = start (counted .before) .pre in
-    let parts = pre .1 .1 .1 .1 in
-    let ok = tree-accepted _ (pre .0) in (
-      counted .write-user-counts .kept .1 .1 .1 .0 ∙ pre .1 .1 .1 .0 ∙ ok .same,
-      (parts .0 ∙ ok .same, (parts .1 ∙ ok .same, counts-some _ ok (counted .write-user-counts .ensures))),
-    )
+    let parts = pre .1 .1 .1 .1 .1 in
+    let same = sym (pre .1 .0 .sized) in
+    (counted .write-user-counts .kept .1 .1 .1 .0 ∙ pre .1 .1 .1 .1 .0 ∙ same, (parts .0 ∙ same, parts .1 ∙ same))
 
 write-shares-requires : tie.Need-write-shares-requires
 write-shares-requires c κs =
     let divided = c .before .before .before .before .before .before .before in
     let counted = counting divided .write-user-counts in
     let pre = start (counting divided .before) .pre in
-    let ok = tree-accepted _ (pre .0) in
-    let parts = split-parts _ ok (counted .ensures) (divided .divide .ensures .0) (divided .divide .ensures .1) in
-    (sound _ ok, (pre .1 .0, (parts, counted .kept .1 .1 .0 ∙ pre .1 .1 .0)))
+    let parts = split-parts _ _ _ (pre .1 .0) (counted .ensures) (divided .divide .ensures .0)
+    (divided .divide .ensures .1) in
+    (pre .0, (pre .1 .1 .0, (parts, counted .kept .1 .1 .0 ∙ pre .1 .1 .1 .0)))
 
 returns : tie.Need-returns
 returns c =
@@ -44,10 +40,10 @@ returns c =
     let divided = shared .before .before .before .before .before .before .before .before in
     let counted = counting divided .write-user-counts in
     let pre = start (counting divided .before) .pre in
-    let ok = tree-accepted _ (pre .0) in
-    let one-a-member = counted .kept .1 .1 .0 ∙ pre .1 .1 .0 ∙ vertices-count _ _ (pre .1 .0) in
+    let one-a-member = counted .kept .1 .1 .0 ∙ pre .1 .1 .1 .0 ∙ vertices-count _ _ (pre .1 .1 .0) in
     shared .write-shares .ensures
-    ∙ split-is _ ok (counted .ensures) (divided .divide .ensures .0) (divided .divide .ensures .1) one-a-member
+    ∙ split-is _ _ _ (pre .1 .0) (counted .ensures) (divided .divide .ensures .0) (divided .divide .ensures .1)
+    one-a-member
 
 pub split-in-spec : {M : Type 1} → statement M
 split-in-spec =

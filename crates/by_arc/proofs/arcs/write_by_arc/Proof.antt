@@ -3,8 +3,6 @@ use native.Mathlib.Omega.{arith}
 use lib.ListN.{length}
 use denote.Ref.{now}
 use Rattle.limits.specs.Limits.{mostArcs}
-use Rattle.game.specs.Tree.{treeOf}
-use Rattle.answers.proofs.Accepted.{tree-accepted}
 use Rattle.basics.proofs.Lists.{zeros-length}
 use borrow.Author.Needs.{needs}
 use Rattle.by_arc.proofs.arcs.write_by_arc.Statement.{statement}
@@ -14,7 +12,7 @@ abbrev start : tie.After-split-in-arg → tie.Start
 start c = c .before .before .before .before .before
 
 few : (s : tie.Start) → length (now (s .args .parents)) ≤ mostArcs
-few s = tree-accepted (treeOf (now (s .args .parents)) (now (s .args .costs))) (s .pre .0) .few
+few s = s .pre .0 .few
 
 part-counts-end : tie.Need-part-counts-end
 part-counts-end c = omega (arith, few (start c))
@@ -30,7 +28,7 @@ split-in-requires c κs =
     let s = start (c .before .before .before) in
     let pre = s .pre in
     let zeros = zeros-length mostArcs _ (few s) in
-    (pre .0, (pre .1 .0, (pre .1 .1, (zeros, (zeros, zeros)))))
+    (pre .0, (pre .1 .0, (pre .1 .1 .0, (pre .1 .1 .1, (zeros, (zeros, zeros))))))
 
 pub write-by-arc-spec : {M : Type 1} → statement M
 write-by-arc-spec =

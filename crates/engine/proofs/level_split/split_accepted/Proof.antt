@@ -3,102 +3,112 @@ use Prim.Native.Nat.{ℕ}
 use mathlib.Core.Path.{_≡_, sym, ap, _∙_, subst}
 use lib.ListN.{length}
 use denote.Ref.{now}
-use Rattle.game.specs.Network.{memberCount, Network}
-use Rattle.game.specs.Tree.{ofArc, Tree, treeOf, network}
+use Rattle.game.specs.Network.{Network, memberCount}
+use Rattle.game.specs.Tree.{networkOf, ofArc}
 use Rattle.game.specs.Level.{level}
 use Rattle.answers.specs.Level.{LevelAnswer, split, shortArc, splitOr9, listAfter}
-use Rattle.tree.specs.Passes.{Capped}
-use Rattle.answers.proofs.Accepted.{tree-accepted}
-use Rattle.tree.proofs.Bounds.{sound}
+use Rattle.tree.specs.Passes.{Capped, networkAt}
 use Rattle.level.specs.Found.{answerOf}
 use Rattle.level.proofs.CapsAccepted.{caps-accepted}
+use Rattle.engine.proofs.TreeAccepted.{marks-count}
+use Rattle.engine.proofs.MembersListed.{written-listed, written-network, written-count}
 use Rattle.engine.proofs.LevelAnswer.{none-short}
 use borrow.Author.Needs.{needs}
 use Rattle.engine.proofs.level_split.split_accepted.Statement.{statement}
 use Rattle.engine.proofs.level_split.split_accepted.Tie as tie
 
--- what is handed in, and the start from later places
-abbrev tree : tie.Start → Tree
-tree s = treeOf (now (s .args .parents)) (now (s .args .costs))
+write-members-requires : tie.Need-write-members-requires
+write-members-requires c κs =
+    let pre = c .before .before .before .before .before .before .before .pre in
+    let marks = pre .1 .1 .0 in
+    (rw (marks .sized) (pre .0 .few), pre .1 .1 .1 .1 .0 ∙ sym (marks-count _ _ marks))
 
-abbrev net : tie.Start → Network
-net s = network (tree s)
+-- what is handed in, and the vertices that are written
+abbrev start : tie.After-write-members → tie.Start
+start c = c .before .before .before .before .before .before .before .before
 
 abbrev the-caps : tie.Start → List ℕ
 the-caps s = now (s .args .caps)
 
-abbrev the-out : tie.Start → List ℕ
-the-out s = now (s .args .out)
-
 abbrev the-costs : tie.Start → List ℕ
 the-costs s = now (s .args .costs)
 
-abbrev the-parents : tie.Start → List ℕ
-the-parents s = now (s .args .parents)
+abbrev vertices : tie.After-write-members → List ℕ
+vertices c = c .write-members .last .1 .0
 
-abbrev start-write-members : tie.After-write-members → tie.Start
-start-write-members c = c .before .before .before .before .before .before .before
+-- the network by its marks, and by the vertices
+abbrev net : tie.Start → Network
+net s = networkOf (now (s .args .parents)) (the-costs s) (now (s .args .marks))
 
-abbrev start-told : tie.After-enum-told → tie.Start
-start-told c = c .before .before .before .before .before .before .before .before .before .before .before .before .before
+abbrev net-at : tie.After-write-members → Network
+net-at c = networkAt (now (start c .args .parents)) (the-costs (start c)) (vertices c)
 
-write-members-requires : tie.Need-write-members-requires
-write-members-requires c κs =
-    let pre = c .before .before .before .before .before .before .pre in
-    (sound _ (tree-accepted _ (pre .0)), pre .1 .1 .0)
+same-net : (c : tie.After-write-members) → net-at c ≡ net (start c)
+same-net c = written-network _ _ (start c .pre .1 .1 .0) (c .write-members .ensures) (the-costs (start c))
 
--- the vertices are written, one a member
-written : (c : tie.After-write-members)
-    → length (c .write-members .last .1 .0) ≡ (memberCount (net (start-write-members c)))
-written c = c .write-members .kept .1 .0 ∙ c .before .before .before .before .before .before .before .pre .1 .1 .0
+one-a-member : (c : tie.After-write-members) → length (vertices c) ≡ memberCount (net (start c))
+one-a-member c = written-count _ _ (start c .pre .1 .1 .0) (c .write-members .ensures)
 
-capped : (c : tie.After-write-members)
-    → Capped (length (c .write-members .last .1 .0)) (the-caps (start-write-members c))
-capped c =
-    subst (λ (n : ℕ). Capped n (the-caps (start-write-members c))) (sym (written c))
-    (caps-accepted (memberCount (net (start-write-members c))) (the-caps (start-write-members c))
-    (c .before .before .before .before .before .before .before .pre .1 .0))
+capped : (c : tie.After-write-members) → Capped (length (vertices c)) (the-caps (start c))
+capped c = rw (one-a-member c) (caps-accepted _ _ (start c .pre .1 .1 .1 .0))
 
 find-short-requires : tie.Need-find-short-requires
-find-short-requires c κs = (
-  c .before .before .before .before .before .before .before .before .before .before .pre .0,
-  (c .before .before .before .write-members .ensures, capped (c .before .before .before)),
-)
+find-short-requires c κs =
+    let written = c .before .before .before in
+    let pre = start written .pre in (
+      pre .0,
+      (pre .1 .0, (written-listed _ _ (pre .1 .1 .0) (written .write-members .ensures), capped written)),
+    )
+
+abbrev written : tie.After-find-short → tie.After-write-members
+written c = c .before .before .before .before
+
+-- 9 where some arc is short
+abbrev SplitOr9 : tie.Start → LevelAnswer → Type 0
+SplitOr9 s a = let n = net s in a ≡ splitOr9 n (the-caps s) (shortArc n (the-caps s) (n .arcs))
+
+found : (c : tie.After-find-short)
+    → SplitOr9 (start (written c)) (answerOf (memberCount (net (start (written c)))) (c .find-short .result))
+found c =
+    let caps = the-caps (start (written c)) in
+    subst
+    (λ (n : Network). answerOf (memberCount n) (c .find-short .result) ≡ splitOr9 n caps (shortArc n caps (n .arcs)))
+    (same-net (written c)) (c .find-short .ensures)
 
 returns : tie.Need-returns
 returns c =
-    let members = c .before .before .before .before .before .before .before in
-    let s = start-write-members members in
-    let n = net s in
-    let found = c .before .before .before .find-short in (
-      c .answer .ensures ∙ ap (λ (m : ℕ). answerOf m (found .result)) (written members) ∙ found .ensures,
-      sym (ap (λ (a : LevelAnswer). listAfter a (the-out s) (level n (the-caps s) (ofArc (the-costs s))))
-          (c .answer .ensures ∙ ap (answerOf _) (c .before .enum-told2 .given .1))),
+    let find = c .before .before .before in
+    let s = start (written find) in
+    let answered = c .answer .ensures in (
+      answered ∙ ap (λ (m : ℕ). answerOf m (find .find-short .result)) (one-a-member (written find)) ∙ found find,
+      sym (ap (λ (a : LevelAnswer). listAfter a (now (s .args .out)) (level (net s) (the-caps s) (ofArc (the-costs s))))
+          (answered ∙ ap (answerOf _) (c .before .enum-told2 .given .1))),
     )
 
 -- no arc is short
 enough : (c : tie.After-enum-told)
-    → split (memberCount (net (start-told c)))
-    ≡ splitOr9 (net (start-told c)) (the-caps (start-told c))
-    (shortArc (net (start-told c)) (the-caps (start-told c)) (length (the-parents (start-told c))))
-enough c =
-    ap (answerOf (memberCount (net (start-told c)))) (sym (c .enum-told .given .1))
-    ∙ c .before .before .find-short .ensures
-
-returns-2 : tie.Need-returns-2
-returns-2 c =
-    let told = c .before .before .before .before .before in (
-      ap split (written (told .before .before .before .before .before .before)) ∙ enough told,
-      c .before .before .write-shares .ensures,
-    )
+    → SplitOr9 (start (written (c .before .before))) (split (memberCount (net (start (written (c .before .before))))))
+enough c = ap (answerOf _) (sym (c .enum-told .given .1)) ∙ found (c .before .before)
 
 write-shares-requires : tie.Need-write-shares-requires
 write-shares-requires c κs =
-    let members = c .before .before .before .before .before .before .before .before in
-    let s = start-write-members members in
-    let places = s .pre .1 .1 .1 ∙ sym (written members) in
+    let members = written (c .before .before .before .before) in
+    let s = start members in
+    let pre = s .pre in
+    let listing = written-listed _ _ (pre .1 .1 .0) (members .write-members .ensures) in
+    let places = pre .1 .1 .1 .1 .1 ∙ sym (one-a-member members) in
     let enough-everywhere = none-short (net s) (the-caps s) _ (enough (c .before .before)) in
-    (s .pre .0, (members .write-members .ensures, (capped members, (places, enough-everywhere))))
+    (pre .0, (pre .1 .0, (listing, (capped members, (places, rw (same-net members) enough-everywhere)))))
+
+returns-2 : tie.Need-returns-2
+returns-2 c =
+    let told = c .before .before .before .before .before in
+    let members = written (told .before .before) in
+    let s = start members in (
+      ap split (one-a-member members) ∙ enough told,
+      c .before .before .write-shares .ensures
+          ∙ ap (λ (n : Network). level n (the-caps s) (ofArc (the-costs s))) (same-net members),
+    )
 
 pub split-accepted-spec : {M : Type 1} → statement M
 split-accepted-spec =

@@ -1,109 +1,53 @@
-use Prim.Native.Nat.{ℕ, _≤_}
-use mathlib.Core.Path.{_≡_, ap, _∙_}
-use native.Mathlib.Omega.{arith}
-use lib.ListN.{length}
+use mathlib.Core.Path.{_≡_}
 use denote.Ref.{now}
-use Rattle.limits.specs.Limits.{mostArcs}
-use Rattle.game.specs.Network.{memberCount}
-use Rattle.game.specs.Tree.{Tree, treeOf, network}
-use Rattle.answer_forms.specs.Answer.{Check, accepted, _then_}
-use Rattle.answers.specs.Checks.{treeCheck, lengthCheck}
-use Rattle.answers.specs.Level.{capsCheck}
-use Rattle.answer_forms.proofs.Composed.{first-accepted, second-accepted}
-use Rattle.answers.proofs.Accepted.{tree-accepted, length-accepted}
-use Rattle.answers.proofs.Limits.{members-bound}
-use Rattle.answer_forms.specs.Checked.{checkOf}
-use Rattle.answer_forms.proofs.Opened.{opened, turned-away}
-use Rattle.tree.proofs.Bounds.{sound}
-use Rattle.basics.proofs.Lists.{zeros-length}
-use Rattle.engine.proofs.LevelAnswer.{listsCheck, tree-turned-down, lists-turned-down, all-accepted}
 use borrow.Author.Needs.{needs}
+use Rattle.game.specs.Tree.{treeOf, Tree}
+use Rattle.answer_forms.specs.Answer.{accepted}
+use Rattle.answers.specs.Checks.{treeCheck}
+use Rattle.answer_forms.proofs.Opened.{opened, turned-away}
+use Rattle.engine.proofs.TreeAccepted.{accepted-few, marks-lent, marks-room, marks-part, accepted-lists}
+use Rattle.engine.proofs.LevelAnswer.{tree-turned-down, tree-taken}
 use Rattle.engine.proofs.level_split.split_level.Statement.{statement}
 use Rattle.engine.proofs.level_split.split_level.Tie as tie
 
+abbrev tree : tie.Start → Tree
+tree s = treeOf (now (s .args .parents)) (now (s .args .costs))
+
 returns : tie.Need-returns
 returns c =
+    let s = c .before .before .before .before .before .before .before .before .before in
     let away = turned-away (c .before .before .before .before .check-tree .ensures)
     (c .before .before .enum-told2 .given .1) (c .before .refusal-of .ensures) in
-    tree-turned-down
-    (treeOf (now (c .before .before .before .before .before .before .before .before .before .args .parents))
-    (now (c .before .before .before .before .before .before .before .before .before .args .costs)))
-    (now (c .before .before .before .before .before .before .before .before .before .args .caps))
-    (now (c .before .before .before .before .before .before .before .before .before .args .out)) away
-    (c .refused .ensures)
+    tree-turned-down (tree s) (now (s .args .caps)) (now (s .args .out)) away (c .refused .ensures)
 
-accepted-tree : (c : tie.After-enum-told)
-    → treeCheck
-    (treeOf (now (c .before .before .before .before .before .before .before .args .parents))
-    (now (c .before .before .before .before .before .before .before .args .costs)))
-    ≡ accepted
+abbrev start : tie.After-enum-told → tie.Start
+start c = c .before .before .before .before .before .before .before
+
+accepted-tree : (c : tie.After-enum-told) → treeCheck (tree (start c)) ≡ accepted
 accepted-tree c = opened (c .before .before .check-tree .ensures) (c .enum-told .given .1)
 
-count-members-requires : tie.Need-count-members-requires
-count-members-requires c κs = sound _ (tree-accepted _ (accepted-tree c))
+part-marks-end : tie.Need-part-marks-end
+part-marks-end c = accepted-few (tree (start c)) (accepted-tree c)
 
--- what is handed in, and the checks on its lists
-abbrev given-tree : tie.Start → Tree
-given-tree s = treeOf (now (s .args .parents)) (now (s .args .costs))
+write-dead-ends-requires : tie.Need-write-dead-ends-requires
+write-dead-ends-requires c κs = marks-lent _ (accepted-tree (c .before))
 
-abbrev lists : tie.Start → Check
-lists s = listsCheck (given-tree s) (now (s .args .caps)) (now (s .args .out))
+part-split-in-tree-end : tie.Need-part-split-in-tree-end
+part-split-in-tree-end c = marks-room _ (c .before .before .write-dead-ends .ensures) _
 
--- from the answer of these checks back to that of the tree's, and to the entry
-abbrev tree-told : tie.After-first-refusal → tie.After-enum-told
-tree-told c = c .before .before .before .before
-
-abbrev start : tie.After-first-refusal → tie.Start
-start c = tree-told c .before .before .before .before .before .before .before
-
--- each check asks for an entry a member
-lists-found : (c : tie.After-first-refusal) → checkOf (c .first-refusal .result) ≡ lists (start c)
-lists-found c =
-    let given = start c .args in
-    let count = c .before .before .before .count-members .ensures in
-    c .first-refusal .ensures
-    ∙ rw (c .before .before .check-caps .ensures, c .before .check-output .ensures)
-    (ap (λ (n : ℕ). capsCheck n (now (given .caps)) then lengthCheck n (length (now (given .out)))) count)
+split-in-tree-requires : tie.Need-split-in-tree-requires
+split-in-tree-requires c κs =
+    let marks = c .before .before .before .before in
+    accepted-lists _ (accepted-tree (marks .before .before)) (marks .write-dead-ends .ensures) _
 
 returns-2 : tie.Need-returns-2
 returns-2 c =
-    let found = c .before .before .before .before in
-    let told = c .before .before .enum-told4 .given .1 in
-    let away = turned-away (lists-found found) told (c .before .refusal-of2 .ensures) in
-    lists-turned-down (given-tree (start found)) _ _ (accepted-tree (tree-told found)) away (c .refused2 .ensures)
-
-accepted-lists : (c : tie.After-enum-told3) → lists (start (c .before .before)) ≡ accepted
-accepted-lists c = opened (lists-found (c .before .before)) (c .enum-told3 .given .1)
-
-few-members : (c : tie.After-enum-told3) → c .before .before .before .before .before .count-members .result ≤ mostArcs
-few-members c =
-    let found = c .before .before in
-    let most = members-bound (given-tree (start found)) (tree-accepted _ (accepted-tree (tree-told found))) in
-    omega (arith, found .before .before .before .count-members .ensures, most)
-
-part-vertices-end : tie.Need-part-vertices-end
-part-vertices-end c = omega (arith, few-members c)
-
-split-accepted-requires : tie.Need-split-accepted-requires
-split-accepted-requires c κs =
-    let found = c .before .before .before .before in
-    let given = start found .args in
-    let members = memberCount (network (given-tree (start found))) in
-    let limits = capsCheck members (now (given .caps)) in
-    let output = lengthCheck members (length (now (given .out))) in
-    let ok = accepted-lists (c .before .before) in
-    let count = found .before .before .before .count-members .ensures in
-    let room = zeros-length mostArcs _ (few-members (c .before .before)) ∙ count in (
-      accepted-tree (tree-told found),
-      (first-accepted limits output ok, (room, length-accepted _ _ (second-accepted limits output ok))),
-    )
-
-returns-3 : tie.Need-returns-3
-returns-3 c =
-    let found = c .before .before .before .before .before .before .before .before in
-    let split = c .before .before .before .split-accepted in
-    all-accepted (given-tree (start found)) _ _ (accepted-tree (tree-told found))
-    (accepted-lists (c .before .before .before .before .before .before)) (split .ensures .0) (split .ensures .1)
+    let marks = c .before .before .before .before .before .before .before in
+    let s = start (marks .before .before) in
+    let part = marks-part (tree s .parents) (marks .write-dead-ends .ensures) in
+    let inner = c .before .before .split-in-tree .ensures in
+    tree-taken (tree s) (now (s .args .caps)) (now (s .args .out)) (accepted-tree (marks .before .before))
+    (rw part at (inner .0)) (rw part at (inner .1))
 
 pub split-level-spec : {M : Type 1} → statement M
 split-level-spec =
@@ -115,18 +59,13 @@ split-level-spec =
     (λ c κs. search needs)
     (λ c κs. search needs)
     returns
-    count-members-requires
-    (λ c κs. search needs)
-    (λ c κs. search needs)
-    (λ c κs. search needs)
     (λ c. search needs)
     (λ c. search needs)
-    (λ c κs. search needs)
-    (λ c κs. search needs)
-    returns-2
+    part-marks-end
+    write-dead-ends-requires
     (λ c. search needs)
     (λ c. search needs)
-    part-vertices-end
-    split-accepted-requires
+    part-split-in-tree-end
+    split-in-tree-requires
     (λ c. search needs)
-    returns-3)
+    returns-2)

@@ -1,34 +1,14 @@
-use Prim.Native.Nat.{ℕ}
-use mathlib.Core.List.{List}
 use mathlib.Core.Path.{_≡_}
-use lib.ListN.{length}
 use denote.Ref.{now}
 use borrow.Author.Needs.{needs}
 use Rattle.game.specs.Tree.{treeOf, Tree}
 use Rattle.answer_forms.specs.Answer.{accepted}
-use Rattle.answers.specs.Checks.{treeCheck, lengthCheck}
+use Rattle.answers.specs.Checks.{treeCheck}
 use Rattle.answers.specs.Needs.{needsAnswer, needsList}
-use Rattle.answers.proofs.Accepted.{tree-accepted, length-accepted}
 use Rattle.answer_forms.proofs.Opened.{opened, turned-away}
-use Rattle.tree.proofs.Bounds.{sound}
+use Rattle.engine.proofs.TreeAccepted.{accepted-few, marks-lent, marks-room, marks-part, accepted-lists}
 use Rattle.engine.proofs.needs.list_needs.Statement.{statement}
 use Rattle.engine.proofs.needs.list_needs.Tie as tie
-
--- what is handed in, and the start from later places
-abbrev tree : tie.Start → Tree
-tree s = treeOf (now (s .args .parents)) (now (s .args .costs))
-
-abbrev the-parents : tie.Start → List ℕ
-the-parents s = now (s .args .parents)
-
-abbrev the-out : tie.Start → List ℕ
-the-out s = now (s .args .out)
-
-abbrev start-told : tie.After-enum-told → tie.Start
-start-told c = c .before .before .before .before .before .before
-
-abbrev start-told3 : tie.After-enum-told3 → tie.Start
-start-told3 c = c .before .before .before .before .before .before .before .before .before
 
 returns : tie.Need-returns
 unfolding needsAnswer needsList
@@ -37,44 +17,36 @@ returns c =
     (c .refusal-of .ensures) in
     (rw away, rw away)
 
-accepted-tree : (c : tie.After-enum-told)
-    → treeCheck (tree (start-told c)) ≡ accepted
+abbrev tree : tie.After-enum-told → Tree
+tree c =
+    let given = c .before .before .before .before .before .before .args in
+    treeOf (now (given .parents)) (now (given .costs))
+
+accepted-tree : (c : tie.After-enum-told) → treeCheck (tree c) ≡ accepted
 accepted-tree c = opened (c .before .before .check-tree .ensures) (c .enum-told .given .1)
+
+part-marks-end : tie.Need-part-marks-end
+part-marks-end c = accepted-few (tree c) (accepted-tree c)
+
+write-dead-ends-requires : tie.Need-write-dead-ends-requires
+write-dead-ends-requires c κs = marks-lent _ (accepted-tree (c .before))
+
+part-list-in-tree-end : tie.Need-part-list-in-tree-end
+part-list-in-tree-end c = marks-room _ (c .before .before .write-dead-ends .ensures) _
+
+list-in-tree-requires : tie.Need-list-in-tree-requires
+list-in-tree-requires c κs =
+    let marks = c .before .before .before .before in
+    accepted-lists _ (accepted-tree (marks .before .before)) (marks .write-dead-ends .ensures) _
 
 returns-2 : tie.Need-returns-2
 unfolding needsAnswer needsList
 returns-2 c =
-    let tree = accepted-tree (c .before .before .before .before) in
-    let away = turned-away (c .before .before .before .check-output .ensures) (c .before .enum-told4 .given .1)
-    (c .refusal-of2 .ensures) in
-    (rw (tree, away), rw (tree, away))
-
-accepted-output : (c : tie.After-enum-told3)
-    → lengthCheck (length (the-parents (start-told3 c))) (length (the-out (start-told3 c))) ≡ accepted
-accepted-output c = opened (c .before .before .check-output .ensures) (c .enum-told3 .given .1)
-
-count-members-requires : tie.Need-count-members-requires
-count-members-requires c κs = sound _ (tree-accepted _ (accepted-tree (c .before .before .before)))
-
-write-needs-requires : tie.Need-write-needs-requires
-write-needs-requires c κs = (
-  accepted-tree (c .before .before .before .before .before),
-  length-accepted _ _ (accepted-output (c .before .before)),
-)
-
-returns-3 : tie.Need-returns-3
-unfolding needsAnswer needsList
-returns-3 c =
-    let tree = accepted-tree (c .before .before .before .before .before .before .before .before) in
-    let list = accepted-output (c .before .before .before .before .before) in (
-      rw (
-        tree,
-        list,
-        c .before .before .before .before .count-members .ensures,
-        c .before .before .write-needs .ensures .0,
-      ),
-      rw (tree, list) (c .before .before .write-needs .ensures .1),
-    )
+    let marks = c .before .before .before .before .before .before .before in
+    let ok = accepted-tree (marks .before .before) in
+    let part = marks-part (tree (marks .before .before) .parents) (marks .write-dead-ends .ensures) in
+    let inner = c .before .before .list-in-tree .ensures in
+    (rw ok (rw part at (inner .0)), rw ok (rw part at (inner .1)))
 
 pub list-needs-spec : {M : Type 1} → statement M
 list-needs-spec =
@@ -85,12 +57,13 @@ list-needs-spec =
     (λ c. search needs)
     (λ c κs. search needs)
     returns
-    (λ c κs. search needs)
     (λ c. search needs)
     (λ c. search needs)
-    (λ c κs. search needs)
-    returns-2
-    count-members-requires
-    write-needs-requires
+    part-marks-end
+    write-dead-ends-requires
     (λ c. search needs)
-    returns-3)
+    (λ c. search needs)
+    part-list-in-tree-end
+    list-in-tree-requires
+    (λ c. search needs)
+    returns-2)

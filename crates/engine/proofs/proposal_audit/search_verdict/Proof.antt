@@ -4,15 +4,14 @@ use mathlib.Core.Bool.{true}
 use mathlib.Core.List.{List}
 use lib.Dec.{ltb}
 use lib.IntN.{pos}
+use denote.Ref.{now}
 use native.Mathlib.Omega.{arith}
 use borrow.Author.Needs.{needs}
 use borrow.Author.Tests.{lt-ltb}
 use Rattle.basics.specs.Bit.{bit}
 use Rattle.basics.specs.Sum.{size}
 use Rattle.answer_forms.specs.Answer.{value}
-use Rattle.answer_forms.proofs.Composed.{first-accepted}
-use Rattle.answers.proofs.Accepted.{tree-accepted}
-use Rattle.answers.proofs.Limits.{members-bound}
+use Rattle.engine.proofs.TreeAccepted.{members-few}
 use Rattle.engine.proofs.NamedSize.{named-size}
 use Rattle.engine.proofs.proposal_audit.search_verdict.Statement.{statement}
 use Rattle.engine.proofs.proposal_audit.search_verdict.Tie as tie
@@ -23,8 +22,8 @@ returns c = let none = c .before .before .search .ensures .0 ∙ ap pos (c .if1 
 returns-2 : tie.Need-returns-2
 returns-2 c =
     let found = c .before .before .before .search .ensures in
-    let few = members-bound _
-    (tree-accepted _ (first-accepted _ _ (c .before .before .before .before .before .before .pre))) in
+    let s = c .before .before .before .before .before .before .before in
+    let few = members-few _ (now (s .args .marks)) (s .pre .0) in
     let counted = c .size-of .ensures ∙ ap (λ (w : List ℕ). size 1024 (bit w)) (found .1) ∙ named-size _ _ few in
     let some : ltb 0 (c .before .before .before .search .result .amount)
     ≡ true = lt-ltb 0 (c .before .before .before .search .result .amount) (omega arith) in

@@ -6,8 +6,7 @@ use lib.ListN.{length, getD, replicate}
 use denote.Ref.{now}
 use Rattle.limits.specs.Limits.{mostArcs}
 use Rattle.game.specs.Network.{memberCount}
-use Rattle.game.specs.Tree.{treeOf, networkOf}
-use Rattle.answers.proofs.Accepted.{tree-accepted}
+use Rattle.tree.specs.Passes.{networkAt}
 use Rattle.users.proofs.Parts.{part-within, part-lists}
 use Rattle.fill.proofs.Arc.{lists-numbers}
 use Rattle.level.proofs.Splitting.{Ready, few}
@@ -17,17 +16,17 @@ use Rattle.level.proofs.arcs.give_out.Statement.{statement}
 use Rattle.level.proofs.arcs.give_out.Tie as tie
 
 abbrev Inv-loop : tie.InvT-loop
-Inv-loop parents costs caps starts counts order shares₀ k₀ shares k =
-    Ready parents costs caps starts counts order
+Inv-loop parents costs vertices caps starts counts order shares₀ k₀ shares k =
+    Ready parents costs vertices caps starts counts order
     × (k ≤ length parents)
-    × (length shares ≡ memberCount (networkOf parents []))
-    × Splitting (treeOf parents costs) caps shares k
+    × (length shares ≡ memberCount (networkAt parents [] vertices))
+    × Splitting (networkAt parents costs vertices) caps shares k
 
 abbrev μ-loop : tie.MeasureT-loop
-μ-loop parents costs caps starts counts order shares₀ k₀ shares k = k
+μ-loop parents costs vertices caps starts counts order shares₀ k₀ shares k = k
 
 abbrev start : tie.After-write-all Inv-loop μ-loop → tie.Start Inv-loop μ-loop
-start c = c .before .before .before .before .before .before .before .before .before
+start c = c .before .before .before .before .before .before .before .before .before .before
 
 -- where the shares were filled with zeros, from the loop
 abbrev filled : tie.At-loop Inv-loop μ-loop → tie.After-write-all Inv-loop μ-loop
@@ -37,12 +36,19 @@ loop-holds : tie.Need-loop-holds Inv-loop μ-loop
 loop-holds c =
     let called = c .before .before in
     let pre = start called .pre in
-    let zeros = called .write-all .ensures ∙ ap (λ (n : ℕ). replicate n 0) (pre .1 .1 .0) in
-    let ok = tree-accepted _ (pre .0) in (
-      record { accepted = ok; capped = pre .1 .0; enough = pre .1 .1 .1 .0; laid = pre .1 .1 .1 .1 },
+    let sized = pre .1 .1 .1 .0 in
+    let enough = pre .1 .1 .1 .1 .0 in
+    let zeros = called .write-all .ensures ∙ ap (λ (n : ℕ). replicate n 0) sized in (
+      record {
+        sound = pre .0;
+        costed = pre .1 .0;
+        capped = pre .1 .1 .0;
+        enough = enough;
+        laid = pre .1 .1 .1 .1 .1;
+      },
       omega arith,
-      called .write-all .kept .0 ∙ pre .1 .1 .0,
-      splitting-start _ _ ok (pre .1 .1 .1 .0) refl zeros,
+      called .write-all .kept .0 ∙ sized,
+      splitting-start _ _ (pre .0 .rising) enough refl zeros,
     )
 
 abbrev Turn : Type 0
@@ -70,11 +76,11 @@ part-split-arc-end c =
     omega (arith, part-within (at .inv .0 .laid) (at .k) (omega arith) (at .inv .1))
 
 -- the turn, from where the arc's cost is read
-abbrev turn : tie.After-shared-slice-known9 Inv-loop μ-loop → Turn
+abbrev turn : tie.After-shared-slice-known10 Inv-loop μ-loop → Turn
 turn c = c .before .before .before .before .before
 
 cast-split-arc : tie.Need-cast-split-arc Inv-loop μ-loop
-cast-split-arc c = omega (arith, c .shared-slice-known9 .given (turn c .before .loop .k - 1))
+cast-split-arc c = omega (arith, c .shared-slice-known10 .given (turn c .before .loop .k - 1))
 
 split-arc-requires : tie.Need-split-arc-requires Inv-loop μ-loop
 split-arc-requires c κs =
@@ -84,29 +90,29 @@ split-arc-requires c κs =
     let sized = ready .capped .sized in
     lists-numbers _ (at .k) _ lists _ _ sized (few ready) (at .inv .2 ∙ sym sized)
 
+-- costs do not decide who the users are
 loop-again : tie.Need-loop-again Inv-loop μ-loop
 loop-again c =
     let called = c .before .before in
     let split = called .split-arc in
     let at = turn (called .before) .before .loop in
     let ready = at .inv .0 in
-    let ok = ready .accepted in
+    let rooted = ready .sound .rising in
     let enough = ready .enough in
     let capped = ready .capped in
     let last = at .inv .3 in
     let lists = part-lists (ready .laid) (at .k) (omega arith) (at .inv .1) in
-    let room = splitting-room _ _ ok enough (at .k) (at .k - 1) (at .inv .1) (omega arith) last (capped .limited) in (
+    let room = splitting-room _ _ rooted enough (at .k) (at .k - 1) (at .inv .1) (omega arith) last (capped .limited)
+    in (
       ready,
       omega (arith, at .inv .1),
       split .kept .1 .1 .0 ∙ at .inv .2,
-      splitting-on _ _ ok enough (at .k) (at .k - 1) (at .inv .1) (omega arith) last
-          (split .ensures .is _ (at .k) lists (capped .sized) (few ready) room),
+      splitting-on _ _ rooted enough (at .k) (at .k - 1) (at .inv .1) (omega arith) last
+          (split .ensures .is _ (at .k) (record { sums = lists .sums }) (capped .sized) (few ready) room),
     )
 
 returns : tie.Need-returns Inv-loop μ-loop
-returns c =
-    let inv = c .before .loop .inv in
-    splitting-end _ _ (inv .0 .accepted) (inv .0 .enough) (omega (arith, c .loop-test .left)) (inv .3)
+returns c = splitting-end _ _ (omega (arith, c .loop-test .left)) (c .before .loop .inv .3)
 
 pub give-out-spec : {M : Type 1} → statement M
 give-out-spec =

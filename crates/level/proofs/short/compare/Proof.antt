@@ -1,7 +1,5 @@
 use mathlib.Core.Path.{_∙_}
 use denote.Ref.{now}
-use Rattle.answers.proofs.Accepted.{tree-accepted}
-use Rattle.tree.proofs.Bounds.{sound}
 use Rattle.level.proofs.Shortage.{short-answer}
 use borrow.Author.Needs.{needs}
 use Rattle.level.proofs.short.compare.Statement.{statement}
@@ -13,16 +11,16 @@ start c = c .before .before .before .before .before .before .before .before
 write-cap-sums-requires : tie.Need-write-cap-sums-requires
 write-cap-sums-requires c κs =
     let pre = start (c .before .before .before) .pre in
-    (sound _ (tree-accepted _ (pre .0)), (pre .1 .0, (pre .1 .1 .0, pre .1 .1 .1 .1)))
+    (pre .0, (pre .1 .1 .0, (pre .1 .1 .1 .0, pre .1 .1 .1 .1 .1)))
 
 returns : tie.Need-returns
 returns c =
     let summed = c .before .before .before .before .before in
     let needed = summed .before .before .before .before in
     let given = start needed .args in
-    let sized = needed .write-needs .kept .1 .1 .0 ∙ start needed .pre .1 .1 .1 .0 in
+    let sized = needed .write-needs .kept .1 .1 .0 ∙ start needed .pre .1 .1 .1 .1 .0 in
     c .first-short .ensures _
-    ∙ short-answer (now (given .parents)) (now (given .costs)) (now (given .caps)) _ _ sized
+    ∙ short-answer (now (given .parents)) (now (given .costs)) (now (given .vertices)) (now (given .caps)) _ _ sized
     (needed .write-needs .ensures .1) (summed .write-cap-sums .ensures)
 
 pub compare-spec : {M : Type 1} → statement M

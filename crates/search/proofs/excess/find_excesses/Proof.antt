@@ -5,23 +5,22 @@ use denote.Ref.{now}
 use native.Mathlib.Omega.{arith}
 use borrow.Author.Needs.{needs}
 use Rattle.limits.specs.Limits.{mostArcs}
-use Rattle.game.specs.Tree.{Tree, treeOf}
-use Rattle.search.proofs.Bound.{Proposed, tree-ok, proposal-length}
+use Rattle.search.proofs.Bound.{Proposed, proposal-length}
 use Rattle.search.proofs.ExcessPass.{Passing, excess, passing-start, passing-on, passing-end}
 use Rattle.search.proofs.ExcessPass.{passing-room, passing-place, passing-fits, passing-excess, passing-carry}
 use Rattle.search.proofs.excess.find_excesses.Statement.{statement}
 use Rattle.search.proofs.excess.find_excesses.Tie as tie
 
 abbrev Inv-loop : tie.InvT-loop
-Inv-loop parents costs proposal has-child₀ below₀ of₀ j₀ k₀ has-child below of j k =
-    Proposed (treeOf parents costs) proposal
+Inv-loop parents costs marks proposal below₀ of₀ j₀ k₀ below of j k =
+    Proposed parents costs marks proposal
     × (0 < k)
     × (k ≤ length parents + 1)
     × (length parents ≤ mostArcs)
-    × Passing (treeOf parents costs) proposal has-child below of j (k - 1)
+    × Passing parents costs marks proposal below of j (k - 1)
 
 abbrev μ-loop : tie.MeasureT-loop
-μ-loop parents costs proposal has-child₀ below₀ of₀ j₀ k₀ has-child below of j k = k
+μ-loop parents costs marks proposal below₀ of₀ j₀ k₀ below of j k = k
 
 -- the start and a turn of the loop
 abbrev Start : Type 0
@@ -31,114 +30,116 @@ abbrev Turn : Type 0
 Turn = tie.In-loop Inv-loop μ-loop
 
 abbrev start : Turn → Start
-start c = c .before .before .before .before
-
-abbrev tree : Start → Tree
-tree s = treeOf (now (s .args .parents)) (now (s .args .costs))
-
-proposed : (s : Start) → Proposed (tree s) (now (s .args .proposal))
-proposed s = record { accepts = s .pre }
+start c = c .before .before .before .before .before
 
 loop-holds : tie.Need-loop-holds Inv-loop μ-loop
 loop-holds c =
-    let ok = proposed (c .before .before) in
-    (ok, omega arith, omega arith, tree-ok _ _ ok .few, passing-start _ _ ok (omega arith) (proposal-length _ _ ok))
+    let pre = c .before .before .before .pre in
+    let ok : Proposed _ _ _ _ =
+    record { sound = pre .0; costed = pre .1 .0; marks = pre .1 .1 .0; accepts = pre .1 .1 .1 } in
+    (ok, omega arith, omega arith, pre .0 .few, passing-start _ _ _ _ (omega arith) (proposal-length _ _ _ _ ok))
 
-parent-here : (c : Turn) → getD (tree (start c) .parents) (c .before .loop .k - 1 - 1) 0 < 1024
-parent-here c =
-    let at = c .before .loop in
-    omega (arith, tree-ok _ _ (at .inv .0) .rooted (at .k - 1 - 1), at .inv .3)
+-- the arc that is looked at has a place in every list
+place : (c : Turn) → c .before .loop .k - 1 - 1 < length (now (start c .args .parents))
+place c = omega (arith, c .before .loop .inv .2, c .loop-test .taken)
+
+shared-slice-read-mark : tie.Need-shared-slice-read-mark Inv-loop μ-loop
+shared-slice-read-mark c = omega (arith, place (c .before), c .before .before .loop .inv .0 .marks .sized)
 
 sub-j : tie.Need-sub-j Inv-loop μ-loop
 sub-j c =
-    let at = c .before .before .loop in
-    let i = at .k - 1 - 1 in
-    passing-room _ _ (at .inv .0) _ i (omega arith) (omega arith) (at .inv .4) _ (c .one-if-member .ensures)
+    let inv = c .before .before .before .loop .inv in
+    passing-room _ _ _ _ (inv .0) (omega arith) (omega arith) (inv .4) (c .one-if-marked .ensures)
 
 share-here-requires : tie.Need-share-here-requires Inv-loop μ-loop
-share-here-requires c κs = λ none.
-    let at = c .before .before .loop in
-    let i = at .k - 1 - 1 in
+share-here-requires c κs = λ m.
+    let inv = c .before .before .before .loop .inv in
     omega (
       arith,
-      passing-place _ _ (at .inv .0) _ i (omega arith) (omega arith) (at .inv .4) _ (c .one-if-member .ensures) none,
-      proposal-length _ _ (at .inv .0),
+      passing-place _ _ _ _ (inv .0) (omega arith) (omega arith) (inv .4) (c .one-if-marked .ensures) m,
+      proposal-length _ _ _ _ (inv .0),
     )
 
 add-amount : tie.Need-add-amount Inv-loop μ-loop
 add-amount c =
-    let at = c .before .before .before .loop in
+    let inv = c .before .before .before .before .loop .inv in
     omega (
       arith,
-      passing-fits _ _ (at .inv .0) _ (at .k - 1 - 1) (omega arith) (omega arith) (at .inv .4) _ _
-          (c .before .one-if-member .ensures) (c .share-here .ensures),
+      passing-fits _ _ _ _ (inv .0) (omega arith) (omega arith) (inv .4) (c .before .one-if-marked .ensures)
+          (c .share-here .ensures),
     )
 
 shared-slice-read-above : tie.Need-shared-slice-read-above Inv-loop μ-loop
 shared-slice-read-above c =
-    let turn = c .before .before .before in
-    let inv = turn .before .loop .inv in
-    omega (arith, inv .2, turn .loop-test .taken, tree-ok _ _ (inv .0) .same)
+    let turn = c .before .before .before .before in
+    omega (arith, place turn, turn .before .loop .inv .0 .costed .sized)
 
 cast-above : tie.Need-cast-above Inv-loop μ-loop
-cast-above c = omega (arith, c .shared-slice-known3 .given (c .before .before .before .before .loop .k - 1 - 1))
+cast-above c = omega (arith, c .shared-slice-known5 .given (c .before .before .before .before .before .loop .k - 1 - 1))
 
 -- the turn, from where the arc's excess is known
-abbrev turn : tie.After-above Inv-loop μ-loop → Turn
-turn c = c .before .before .before .before
+abbrev turn-of : tie.After-above Inv-loop μ-loop → Turn
+turn-of c = c .before .before .before .before .before
 
 -- what the turn's arc exceeds by
 excess-here : (c : tie.After-above Inv-loop μ-loop)
-    → let s = start (turn c) in
-    c .above .result ≡ excess (tree s) (now (s .args .proposal)) (turn c .before .loop .k - 1)
+    → let args = start (turn-of c) .args in
+    c .above .result
+    ≡ excess (now (args .parents)) (now (args .costs)) (now (args .marks)) (now (args .proposal))
+    (turn-of c .before .loop .k - 1)
 excess-here c =
-    let at = turn c .before .loop in
+    let inv = turn-of c .before .loop .inv in
     let shared = c .before .before in
-    passing-excess _ _ (at .inv .0) _ (at .k - 1 - 1) (omega arith) (omega arith) (at .inv .4) _ _
-    (shared .before .one-if-member .ensures) (shared .share-here .ensures) _ (c .above .ensures)
+    passing-excess _ _ _ _ (inv .0) (omega arith) (omega arith) (inv .4) (shared .before .one-if-marked .ensures)
+    (shared .share-here .ensures) (c .above .ensures)
+
+parent-here : (c : Turn) → getD (now (start c .args .parents)) (c .before .loop .k - 1 - 1) 0 < 1024
+parent-here c =
+    let at = c .before .loop in
+    omega (arith, place c, at .inv .0 .sound .rising (at .k - 1 - 1), at .inv .3)
 
 cast-p : tie.Need-cast-p Inv-loop μ-loop
-cast-p c = omega (arith, parent-here (turn (c .before)))
-
-array-write-has-child : tie.Need-array-write-has-child Inv-loop μ-loop
-array-write-has-child c = omega (arith, parent-here (turn (c .before)))
+cast-p c = omega (arith, parent-here (turn-of (c .before)))
 
 mul-below : tie.Need-mul-below Inv-loop μ-loop
-mul-below c = omega (arith, parent-here (turn (c .before)))
+mul-below c = omega (arith, parent-here (turn-of (c .before)))
 
 array-read-below : tie.Need-array-read-below Inv-loop μ-loop
-array-read-below c = omega (arith, parent-here (turn (c .before)))
+array-read-below c = parent-here (turn-of (c .before))
 
 add-below : tie.Need-add-below Inv-loop μ-loop
 add-below c =
     let found = c .before in
-    let at = turn found .before .loop in
-    let i = at .k - 1 - 1 in
-    omega (arith, passing-carry _ _ (at .inv .0) _ i (omega arith) (omega arith) (at .inv .4) _ (excess-here found))
+    let at = turn-of found .before .loop in
+    let inv = at .inv in
+    omega (
+      arith,
+      passing-carry _ _ _ _ (inv .0) {i = at .k - 1 - 1} (omega arith) (omega arith) (inv .4) (excess-here found),
+    )
 
 mul-below-2 : tie.Need-mul-below-2 Inv-loop μ-loop
-mul-below-2 c = omega (arith, parent-here (turn (c .before)))
+mul-below-2 c = omega (arith, parent-here (turn-of (c .before)))
 
 array-write-below : tie.Need-array-write-below Inv-loop μ-loop
-array-write-below c = omega (arith, parent-here (turn (c .before)))
+array-write-below c = parent-here (turn-of (c .before))
 
 loop-again : tie.Need-loop-again Inv-loop μ-loop
 loop-again c =
     let found = c .before in
-    let at = turn found .before .loop in (
-      at .inv .0,
+    let inv = turn-of found .before .loop .inv in (
+      inv .0,
       omega arith,
       omega arith,
-      at .inv .3,
-      passing-on _ _ (at .inv .0) _ (at .k - 1 - 1) (omega arith) (omega arith) (at .inv .4) _ _
-          (found .before .before .before .one-if-member .ensures) (excess-here found),
+      inv .3,
+      passing-on _ _ _ _ (inv .0) (omega arith) (omega arith) (inv .4) (excess-here found)
+          (found .before .before .before .one-if-marked .ensures),
     )
 
-array-read-t38 : tie.Need-array-read-t38 Inv-loop μ-loop
-array-read-t38 c = omega arith
+array-read-t34 : tie.Need-array-read-t34 Inv-loop μ-loop
+array-read-t34 c = omega arith
 
 returns : tie.Need-returns Inv-loop μ-loop
-returns c = passing-end _ _ (c .before .loop .inv .0) (omega arith) (c .before .loop .inv .4)
+returns c = passing-end _ _ _ _ (c .before .loop .inv .0) (omega arith) (c .before .loop .inv .4)
 
 pub find-excesses-spec : {M : Type 1} → statement M
 find-excesses-spec =
@@ -150,9 +151,10 @@ find-excesses-spec =
     loop-holds
     (λ c. search needs)
     (λ c. search needs)
+    (λ c. search needs)
+    shared-slice-read-mark
     (λ c κs. search needs)
     sub-j
-    (λ c. search needs)
     share-here-requires
     (λ c. search needs)
     (λ c. search needs)
@@ -168,7 +170,6 @@ find-excesses-spec =
     (λ c. search needs)
     (λ c. search needs)
     cast-p
-    array-write-has-child
     mul-below
     array-read-below
     add-below
@@ -176,5 +177,5 @@ find-excesses-spec =
     array-write-below
     (λ c. search needs)
     loop-again
-    array-read-t38
+    array-read-t34
     returns)

@@ -5,17 +5,16 @@ use lib.ListN.{length, getD, replicate}
 use denote.Ref.{now}
 use native.Mathlib.Omega.{arith}
 use borrow.Author.Needs.{needs}
-use Rattle.game.specs.Network.{members}
-use Rattle.game.specs.Tree.{networkOf}
+use Rattle.game.specs.Network.{sumBelow}
 use Rattle.basics.proofs.Sums.{In}
-use Rattle.tree.specs.Passes.{Sound}
+use Rattle.tree.specs.Passes.{Sound, Listed, networkAt}
 use Rattle.tree.proofs.CapPass.{Placing, placing-start, member-in, placing-on, placing-fits, placing-sums}
 use Rattle.tree.proofs.caps.write_cap_sums.Statement.{statement}
 use Rattle.tree.proofs.caps.write_cap_sums.Tie as tie
 
 abbrev Inv-loop : tie.InvT-loop
 Inv-loop parents vertices caps out₀ j₀ out j =
-    Sound parents × (vertices ≡ members (networkOf parents [])) × Placing (networkOf parents []) caps out j
+    Sound parents × Listed parents vertices × Placing (networkAt parents [] vertices) caps out j
 
 abbrev μ-loop : tie.MeasureT-loop
 μ-loop parents vertices caps out₀ j₀ out j = length vertices - j
@@ -40,7 +39,8 @@ member-here : (c : tie.In-loop Inv-loop μ-loop)
     In (length (now (args .parents))) (getD (now (args .vertices)) (c .before .loop .j) 0)
 member-here c =
     let args = start (filled (c .before)) .args in
-    member-in (networkOf (now (args .parents)) []) (c .before .loop .inv .1) _ (c .loop-test .taken)
+    member-in (networkAt (now (args .parents)) [] (now (args .vertices))) (c .before .loop .inv .1 .are) _
+    (c .loop-test .taken)
 
 cast-place : tie.Need-cast-place Inv-loop μ-loop
 cast-place c = omega (arith, c .shared-slice-known4 .given (c .before .before .loop .j))
@@ -60,7 +60,7 @@ loop-again c =
     let inv = turn .before .loop .inv in (
       inv .0,
       inv .1,
-      placing-on _ _ (inv .1) _ _ (turn .loop-test .taken) (omega (arith, member-here turn)) (inv .2),
+      placing-on _ _ (inv .1 .are) _ _ (turn .loop-test .taken) (omega (arith, member-here turn)) (inv .2),
     )
 
 add-up-requires : tie.Need-add-up-requires Inv-loop μ-loop
@@ -68,13 +68,14 @@ add-up-requires c κs =
     let at = c .before .before in
     let inv = at .loop .inv in
     let pre = start (filled at) .pre in
-    let fits = placing-fits _ _ (inv .1) (omega arith) (inv .2) (inv .0 .few) (pre .1 .1 .0) in
+    let fits = placing-fits _ _ (inv .1 .are) (omega arith) (inv .2) (inv .0 .few) (pre .1 .1 .0) in
     (inv .0, (inv .2 .kept, omega (arith, fits)))
 
 returns : tie.Need-returns Inv-loop μ-loop
+unfolding sumBelow
 returns c =
     let inv = c .before .before .before .before .before .loop .inv in
-    c .before .before .add-up .ensures .1 ∙ placing-sums _ _ (inv .1) (omega arith) (inv .2)
+    c .before .before .add-up .ensures .1 ∙ placing-sums _ _ (inv .1 .are) (omega arith) (inv .2)
 
 pub write-cap-sums-spec : {M : Type 1} → statement M
 write-cap-sums-spec =

@@ -3,7 +3,7 @@ use mathlib.Core.Path.{refl}
 use native.Mathlib.Omega.{arith}
 use lib.ListN.{length, replicate, length-replicate, getD-replicate}
 use borrow.Author.Needs.{needs}
-use Rattle.tree.proofs.Filling.{Filling, filling-start, filling-on, filling-end}
+use Rattle.basics.proofs.Filling.{Filling, filling-start, filling-on, filling-end}
 use Rattle.tree.proofs.constant.write_all.Statement.{statement}
 use Rattle.tree.proofs.constant.write_all.Tie as tie
 

@@ -1,5 +1,7 @@
 use denote.Ref.{now}
 use mathlib.Core.Path.{_∙_}
+use mathlib.Core.List.{[]}
+use Rattle.tree.specs.Passes.{networkAt}
 use Rattle.tree.proofs.Vertices.{vertices-count}
 use Rattle.tree.proofs.UserCounts.{ones-capped, ones-count}
 use borrow.Author.Needs.{needs}
@@ -19,10 +21,11 @@ returns : tie.Need-returns
 returns c =
     let summed = c .before .before in
     let filled = summed .before .before .before .before .before in
-    let parents = now (start filled .args .parents) in
+    let args = start filled .args in
     let pre = start filled .pre in
     summed .write-cap-sums .ensures
-    ∙ ones-count (filled .write-all .ensures) parents (pre .1 .1 .0 ∙ vertices-count parents _ (pre .1 .0))
+    ∙ ones-count (filled .write-all .ensures) (networkAt (now (args .parents)) [] (now (args .vertices)))
+    (pre .1 .1 .0 ∙ vertices-count _ _ (pre .1 .0))
 
 pub write-user-counts-spec : {M : Type 1} → statement M
 write-user-counts-spec =

@@ -1,24 +1,25 @@
 use native.Mathlib.Omega.{arith}
 use borrow.Author.Needs.{needs}
+use borrow.Author.Tests.{eq-eqb, ne-eqb}
 use Rattle.tree.proofs.members.place_member.Statement.{statement}
 use Rattle.tree.proofs.members.place_member.Tie as tie
 
-returns : tie.Need-returns
-returns c = (rw (c .if1 .taken) (omega arith), rw (c .if1 .taken))
-
-sub-out : tie.Need-sub-out
-sub-out c = c .before .pre .1 (c .if1 .left)
+mul-out : tie.Need-mul-out
+mul-out c = omega (arith, c .before .pre .0)
 
 slice-write-out : tie.Need-slice-write-out
-slice-write-out c = omega (arith, c .before .pre .1 (c .if1 .left))
+slice-write-out c = c .before .pre .1 (eq-eqb _ _ (c .if1 .taken))
 
-sub-result : tie.Need-sub-result
-sub-result c = c .before .pre .1 (c .if1 .left)
+add-result : tie.Need-add-result
+add-result c = omega (arith, c .before .pre .0)
+
+returns : tie.Need-returns
+returns c = (rw (eq-eqb _ _ (c .if1 .taken)), rw (eq-eqb _ _ (c .if1 .taken)))
 
 returns-2 : tie.Need-returns-2
-returns-2 c = (rw (c .if1 .left), rw (c .if1 .left))
+returns-2 c = (rw (ne-eqb _ _ (c .if1 .left)) (omega arith), rw (ne-eqb _ _ (c .if1 .left)))
 
 pub place-member-spec : {M : Type 1} → statement M
 place-member-spec =
     tie.close
-    (tie.spec returns sub-out (λ c. search needs) slice-write-out sub-result (λ c. search needs) returns-2)
+    (tie.spec mul-out slice-write-out add-result (λ c. search needs) returns returns-2)

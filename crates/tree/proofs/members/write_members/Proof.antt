@@ -1,73 +1,58 @@
-use Prim.Native.Nat.{_+_, _-_, _≤_, _<_}
+use Prim.Native.Nat.{ℕ, _-_, _≤_, _<_}
 use mathlib.Core.Path.{_≡_, refl, _∙_}
-use lib.ListN.{length}
 use native.Mathlib.Omega.{arith}
 use borrow.Author.Needs.{needs}
-use Rattle.tree.specs.Passes.{Sound}
-use Rattle.tree.proofs.MemberPass.{Listing, listing-start, listing-room, listing-on, listing-end}
+use lib.ListN.{length}
+use Rattle.limits.specs.Limits.{mostArcs}
+use denote.Ref.{now}
+use Rattle.tree.proofs.MemberPass.{upTo, up-to-le, Listing, listing-start, listing-room, listing-on, listing-end}
 use Rattle.tree.proofs.members.write_members.Statement.{statement}
 use Rattle.tree.proofs.members.write_members.Tie as tie
 
 abbrev Inv-loop : tie.InvT-loop
-Inv-loop parents out₀ has-child₀ j₀ k₀ out has-child j k =
-    Sound parents
-    × (0 < k)
-    × (k ≤ length parents + 1)
+Inv-loop marks out₀ j₀ i₀ out j i =
+    (length marks ≤ mostArcs)
+    × (i ≤ length marks)
     × (length out ≡ length out₀)
-    × Listing parents out has-child j (k - 1)
+    × (length out ≡ upTo marks (length marks))
+    × Listing marks out j i
 
 abbrev μ-loop : tie.MeasureT-loop
-μ-loop parents out₀ has-child₀ j₀ k₀ out has-child j k = k
+μ-loop marks out₀ j₀ i₀ out j i = length marks - i
 
 loop-holds : tie.Need-loop-holds Inv-loop μ-loop
 loop-holds c =
-    let start = c .before .before in
-    let parents = start .args .parents .now in
-    (start .pre .0, omega arith, omega arith, refl, listing-start parents (omega arith) (start .pre .1))
+    let pre = c .before .before .pre in (pre .0, omega arith, refl, pre .1, listing-start _)
+
+cast-place-member : tie.Need-cast-place-member Inv-loop μ-loop
+cast-place-member c = omega (arith, c .before .before .loop .inv .0)
 
 place-member-requires : tie.Need-place-member-requires Inv-loop μ-loop
 place-member-requires c κs =
-    let at = c .before .before .loop in
-    (at .inv .4 .fits, listing-room _ (at .inv .0) _ (at .k - 1 - 1) (omega arith) (omega arith) (at .inv .4))
-
--- the turn's start, from where its vertex is placed
-abbrev begun : tie.After-slice-known2 Inv-loop μ-loop → tie.At-loop Inv-loop μ-loop
-begun c = c .before .before .before .before .before
-
-mul-has-child : tie.Need-mul-has-child Inv-loop μ-loop
-mul-has-child c = omega (arith, begun c .loop .inv .0 .few)
-
-shared-slice-read-has-child : tie.Need-shared-slice-read-has-child Inv-loop μ-loop
-shared-slice-read-has-child c = omega arith
-
-cast-has-child : tie.Need-cast-has-child Inv-loop μ-loop
-cast-has-child c = omega (arith, c .shared-slice-known2 .given (begun (c .before) .loop .k - 1 - 1))
-
-array-write-has-child : tie.Need-array-write-has-child Inv-loop μ-loop
-array-write-has-child c =
-    let at = begun (c .before) .loop in
-    omega (arith, at .inv .0 .few, at .inv .0 .rising (at .k - 1 - 1))
-
-loop-less : tie.Need-loop-less Inv-loop μ-loop
-loop-less c = omega arith
+    let at = c .before .before .before in
+    let inv = at .loop .inv in (
+      omega (arith, inv .4 .place, up-to-le (now (at .before .before .before .args .marks)) (at .loop .i), inv .0),
+      listing-room _ (c .before .before .loop-test .taken) (inv .3) (inv .4),
+    )
 
 loop-again : tie.Need-loop-again Inv-loop μ-loop
 loop-again c =
-    let at = begun (c .before) .loop in
-    let put = c .before .before .before .place-member in (
-      at .inv .0,
+    let turn = c .before .before .before .before .before in
+    let inv = turn .before .loop .inv in
+    let put = c .before .before .place-member in (
+      inv .0,
       omega arith,
-      omega arith,
-      put .kept .0 ∙ at .inv .3,
-      listing-on _ (at .inv .0) _ (at .k - 1 - 1) (omega arith) (omega arith) (at .inv .4) _ _ (put .ensures .0)
-          (put .ensures .1),
+      put .kept .0 ∙ inv .2,
+      put .kept .0 ∙ inv .3,
+      listing-on _ (turn .loop-test .taken) (inv .3) (inv .4) (omega arith) (put .ensures .0) (put .ensures .1),
     )
 
 same-length : tie.Need-same-length Inv-loop μ-loop
-same-length c = c .before .loop .inv .3
+same-length c = c .before .loop .inv .2
 
 returns : tie.Need-returns Inv-loop μ-loop
-returns c = listing-end _ (omega arith) (c .before .loop .inv .4)
+returns c =
+    let inv = c .before .loop .inv in listing-end _ (omega (arith, inv .1)) (inv .3) (inv .4)
 
 pub write-members-spec : {M : Type 1} → statement M
 write-members-spec =
@@ -75,18 +60,14 @@ write-members-spec =
     (tie.spec
     Inv-loop
     μ-loop
-    (λ c. search needs)
     loop-holds
     (λ c. search needs)
+    cast-place-member
     (λ c. search needs)
     (λ c. search needs)
     place-member-requires
     (λ c. search needs)
-    mul-has-child
-    shared-slice-read-has-child
-    cast-has-child
-    array-write-has-child
-    loop-less
+    (λ c. search needs)
     loop-again
     same-length
     returns)

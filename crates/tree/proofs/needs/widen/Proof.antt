@@ -3,7 +3,7 @@ use mathlib.Core.Path.{refl, sym, _∙_}
 use native.Mathlib.Omega.{arith}
 use lib.ListN.{length, getD}
 use borrow.Author.Needs.{needs}
-use Rattle.tree.proofs.Filling.{Filling, filling-start, filling-on, filling-end}
+use Rattle.basics.proofs.Filling.{Filling, filling-start, filling-on, filling-end}
 use Rattle.tree.proofs.needs.widen.Statement.{statement}
 use Rattle.tree.proofs.needs.widen.Tie as tie
 

@@ -1,6 +1,6 @@
 use borrow.Author.Tests.{lt-ltb, le-ltb}
-use Rattle.search.proofs.mark.active_here.Statement.{statement}
-use Rattle.search.proofs.mark.active_here.Tie as tie
+use Rattle.search.proofs.active.active_here.Statement.{statement}
+use Rattle.search.proofs.active.active_here.Tie as tie
 
 returns : tie.Need-returns
 returns c = rw (lt-ltb _ _ (c .if1 .taken))

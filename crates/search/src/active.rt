@@ -1,10 +1,12 @@
 // The active members: those with an excess at their own arc and at every arc above it.
 use limits::MOST_ARCS;
 ghost use mathlib.Core.Path.{_≡_};
-ghost use mathlib.Core.Bool.{_&&_, not};
-ghost use lib.Dec.{ltb};
-ghost use Rattle.tree.specs.Passes.{Sound};
-ghost use Rattle.search.specs.Passes.{Marked, Ends};
+ghost use mathlib.Core.Bool.{_&&_};
+ghost use mathlib.Core.List.{[]};
+ghost use lib.Dec.{ltb, eqb};
+ghost use Rattle.game.specs.Tree.{networkOf};
+ghost use Rattle.tree.specs.Passes.{Sound, Marked};
+ghost use Rattle.search.specs.Passes.{Chosen};
 
 // An arc is active where it has an excess and its parent is active.
 fn active_here(excess: u64, parent_active: bool) -> bool
@@ -13,17 +15,17 @@ fn active_here(excess: u64, parent_active: bool) -> bool
     if 0 < excess { parent_active } else { false }
 }
 
-fn chosen(active: bool, has_child: bool) -> bool
-    ensures { λ r. ⌜ r ≡ (active && not «has_child») ⌝ }
+fn chosen(active: bool, mark: u16) -> bool
+    ensures { λ r. ⌜ r ≡ (active && eqb mark 1) ⌝ }
 {
-    if active { !has_child } else { false }
+    if active { mark == 1 } else { false }
 }
 
 // The words of the active members, from the source outward.
-pub fn mark(parents: &[u16], of: [u64; MOST_ARCS + 1], inner: [bool; MOST_ARCS + 1]) -> [u64; 16]
+pub fn choose_active(parents: &[u16], marks: &[u16], of: [u64; MOST_ARCS + 1]) -> [u64; 16]
     requires { ⌜ Sound (now parents) ⌝ }
-    requires { ⌜ Ends (now parents) inner ⌝ }
-    ensures { λ r. ⌜ Marked (now (parents .entry)) of r ⌝ }
+    requires { ⌜ Marked (now parents) (now marks) ⌝ }
+    ensures { λ r. ⌜ Chosen (networkOf (now (parents .entry)) [] (now (marks .entry))) of r ⌝ }
 {
     let mut active = [false; MOST_ARCS + 1];
     active[0] = true;
@@ -33,8 +35,9 @@ pub fn mark(parents: &[u16], of: [u64; MOST_ARCS + 1], inner: [bool; MOST_ARCS +
     while i < parents.len() {
         let on = active_here(of[i + 1], active[parents[i] as usize]);
         active[i + 1] = on;
-        bits::put(&mut words, j, chosen(on, inner[i + 1]));
-        j += tree::one_if_member(inner[i + 1]);
+        let mark = marks[i];
+        bits::put(&mut words, j, chosen(on, mark));
+        j += tree::one_if_marked(mark);
         i += 1;
     }
     words

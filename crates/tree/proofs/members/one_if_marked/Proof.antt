@@ -1,0 +1,12 @@
+use borrow.Author.Tests.{eq-eqb, ne-eqb}
+use Rattle.tree.proofs.members.one_if_marked.Statement.{statement}
+use Rattle.tree.proofs.members.one_if_marked.Tie as tie
+
+returns : tie.Need-returns
+returns c = rw (eq-eqb _ _ (c .if1 .taken))
+
+returns-2 : tie.Need-returns-2
+returns-2 c = rw (ne-eqb _ _ (c .if1 .left))
+
+pub one-if-marked-spec : {M : Type 1} → statement M
+one-if-marked-spec = tie.close (tie.spec returns returns-2)
