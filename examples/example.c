@@ -1,4 +1,4 @@
-/* Audits and splits the tree T of docs/SPECIFICATION.md, §10. */
+/* Audits and splits the tree T of docs/SPECIFICATION.md, §10, with a member at every dead end, then with one spare. */
 #include "zilqodur.h"
 
 #include <inttypes.h>
@@ -9,13 +9,14 @@
 
 static const uint16_t parents[ARCS] = {0, 1, 1, 0};
 static const uint32_t costs[ARCS] = {6, 1, 5, 4};
+static uint16_t marks[ARCS];
 
 static void print_refusal(const char *name, uint32_t refusal, size_t place) {
     printf("%s refused %" PRIu32 " at %zu", name, refusal, place);
 }
 
 static void audit(const int64_t proposal[MEMBERS]) {
-    ZilqodurAudit a = zilqodur_audit(parents, ARCS, costs, ARCS, proposal, MEMBERS);
+    ZilqodurAudit a = zilqodur_audit(parents, ARCS, costs, ARCS, marks, ARCS, proposal, MEMBERS);
     if (a.refusal != ZILQODUR_NO_REFUSAL) {
         print_refusal("audit", a.refusal, a.place);
     } else if (a.verdict == ZILQODUR_WRONG_TOTAL) {
@@ -33,43 +34,51 @@ static void audit(const int64_t proposal[MEMBERS]) {
     printf("\n");
 }
 
-static void print_shares(const char *name, const uint64_t shares[MEMBERS]) {
+static void print_shares(const char *name, const uint64_t *shares, size_t members) {
     printf("%s", name);
-    for (size_t j = 0; j < MEMBERS; j++) {
+    for (size_t j = 0; j < members; j++) {
         printf(" %" PRIu64, shares[j]);
     }
 }
 
 static void level(const uint64_t caps[MEMBERS]) {
     uint64_t shares[MEMBERS] = {0};
-    ZilqodurLevel l = zilqodur_split_level(parents, ARCS, costs, ARCS, caps, MEMBERS, shares, MEMBERS);
+    ZilqodurLevel l = zilqodur_split_level(parents, ARCS, costs, ARCS, marks, ARCS, caps, MEMBERS, shares, MEMBERS);
     if (l.refusal != ZILQODUR_NO_REFUSAL) {
         print_refusal("level", l.refusal, l.place);
         printf(" short %" PRIu64, l.shortfall);
     } else {
-        print_shares("level", shares);
+        print_shares("level", shares, l.members);
     }
     printf("\n");
 }
 
-static void by_arc(void) {
+static void by_arc(size_t members) {
     uint64_t shares[MEMBERS] = {0};
-    ZilqodurMembers m = zilqodur_split_by_arc(parents, ARCS, costs, ARCS, shares, MEMBERS);
+    ZilqodurMembers m = zilqodur_split_by_arc(parents, ARCS, costs, ARCS, marks, ARCS, shares, members);
     if (m.refusal != ZILQODUR_NO_REFUSAL) {
         print_refusal("by-arc", m.refusal, m.place);
     } else {
-        print_shares("by-arc", shares);
+        print_shares("by-arc", shares, m.members);
     }
     printf("\n");
 }
 
 int main(void) {
+    ZilqodurMembers m = zilqodur_mark_dead_ends(parents, ARCS, costs, ARCS, marks, ARCS);
+    if (m.refusal != ZILQODUR_NO_REFUSAL) {
+        print_refusal("tree", m.refusal, m.place);
+        printf("\n");
+        return 1;
+    }
     audit((const int64_t[MEMBERS]){7, 5, 4});
     audit((const int64_t[MEMBERS]){8, 4, 4});
     audit((const int64_t[MEMBERS]){8, 4, 5});
     audit((const int64_t[MEMBERS]){8, 4, 2000000000001});
     level((const uint64_t[MEMBERS]){100, 100, 100});
     level((const uint64_t[MEMBERS]){3, 8, 100});
-    by_arc();
+    by_arc(m.members);
+    marks[2] = 0; /* vertex 3 is a plot that is not yet sold: nobody pays for its arc */
+    by_arc(m.members - 1);
     return 0;
 }

@@ -1,4 +1,5 @@
-// Audits and splits the tree T of docs/SPECIFICATION.md, §10. The declarations are those of include/zilqodur.h.
+// Audits and splits the tree T of docs/SPECIFICATION.md, §10, with a member at every dead end, then with one spare. The
+// declarations are those of include/zilqodur.h.
 
 #[repr(C)]
 struct ZilqodurMembers {
@@ -28,31 +29,46 @@ struct ZilqodurLevel {
 
 #[link(name = "capi", kind = "static")]
 unsafe extern "C" {
+    fn zilqodur_mark_dead_ends(
+        parents: *const u16,
+        parents_count: usize,
+        costs: *const u32,
+        costs_count: usize,
+        out: *mut u16,
+        out_count: usize,
+    ) -> ZilqodurMembers;
+
     fn zilqodur_audit(
         parents: *const u16,
-        parent_count: usize,
+        parents_count: usize,
         costs: *const u32,
-        cost_count: usize,
+        costs_count: usize,
+        marks: *const u16,
+        marks_count: usize,
         proposal: *const i64,
-        share_count: usize,
+        proposal_count: usize,
     ) -> ZilqodurAudit;
 
     fn zilqodur_split_level(
         parents: *const u16,
-        parent_count: usize,
+        parents_count: usize,
         costs: *const u32,
-        cost_count: usize,
+        costs_count: usize,
+        marks: *const u16,
+        marks_count: usize,
         caps: *const u64,
-        cap_count: usize,
+        caps_count: usize,
         out: *mut u64,
         out_count: usize,
     ) -> ZilqodurLevel;
 
     fn zilqodur_split_by_arc(
         parents: *const u16,
-        parent_count: usize,
+        parents_count: usize,
         costs: *const u32,
-        cost_count: usize,
+        costs_count: usize,
+        marks: *const u16,
+        marks_count: usize,
         out: *mut u64,
         out_count: usize,
     ) -> ZilqodurMembers;
@@ -64,7 +80,21 @@ const OBJECTION: u32 = 3;
 const PARENTS: [u16; 4] = [0, 1, 1, 0];
 const COSTS: [u32; 4] = [6, 1, 5, 4];
 
-fn audit(proposal: &[i64]) -> ZilqodurAudit {
+fn mark_dead_ends(out: &mut [u16]) -> ZilqodurMembers {
+    // Safety: each pointer and count are those of one slice, and `out` is borrowed alone.
+    unsafe {
+        zilqodur_mark_dead_ends(
+            PARENTS.as_ptr(),
+            PARENTS.len(),
+            COSTS.as_ptr(),
+            COSTS.len(),
+            out.as_mut_ptr(),
+            out.len(),
+        )
+    }
+}
+
+fn audit(marks: &[u16], proposal: &[i64]) -> ZilqodurAudit {
     // Safety: each pointer and count are those of one slice, and nothing is written.
     unsafe {
         zilqodur_audit(
@@ -72,13 +102,15 @@ fn audit(proposal: &[i64]) -> ZilqodurAudit {
             PARENTS.len(),
             COSTS.as_ptr(),
             COSTS.len(),
+            marks.as_ptr(),
+            marks.len(),
             proposal.as_ptr(),
             proposal.len(),
         )
     }
 }
 
-fn split_level(caps: &[u64], out: &mut [u64]) -> ZilqodurLevel {
+fn split_level(marks: &[u16], caps: &[u64], out: &mut [u64]) -> ZilqodurLevel {
     // Safety: each pointer and count are those of one slice, and `out` is borrowed alone.
     unsafe {
         zilqodur_split_level(
@@ -86,6 +118,8 @@ fn split_level(caps: &[u64], out: &mut [u64]) -> ZilqodurLevel {
             PARENTS.len(),
             COSTS.as_ptr(),
             COSTS.len(),
+            marks.as_ptr(),
+            marks.len(),
             caps.as_ptr(),
             caps.len(),
             out.as_mut_ptr(),
@@ -94,7 +128,7 @@ fn split_level(caps: &[u64], out: &mut [u64]) -> ZilqodurLevel {
     }
 }
 
-fn split_by_arc(out: &mut [u64]) -> ZilqodurMembers {
+fn split_by_arc(marks: &[u16], out: &mut [u64]) -> ZilqodurMembers {
     // Safety: each pointer and count are those of one slice, and `out` is borrowed alone.
     unsafe {
         zilqodur_split_by_arc(
@@ -102,6 +136,8 @@ fn split_by_arc(out: &mut [u64]) -> ZilqodurMembers {
             PARENTS.len(),
             COSTS.as_ptr(),
             COSTS.len(),
+            marks.as_ptr(),
+            marks.len(),
             out.as_mut_ptr(),
             out.len(),
         )
@@ -112,8 +148,8 @@ fn joined(numbers: &[u64]) -> String {
     numbers.iter().map(|n| format!(" {n}")).collect()
 }
 
-fn print_audit(proposal: &[i64]) {
-    let a = audit(proposal);
+fn print_audit(marks: &[u16], proposal: &[i64]) {
+    let a = audit(marks, proposal);
     if a.refusal != 0 {
         println!("audit refused {} at {}", a.refusal, a.place);
     } else if a.verdict == WRONG_TOTAL {
@@ -126,9 +162,9 @@ fn print_audit(proposal: &[i64]) {
     }
 }
 
-fn print_level(caps: &[u64]) {
+fn print_level(marks: &[u16], caps: &[u64]) {
     let mut shares = [0; 3];
-    let l = split_level(caps, &mut shares);
+    let l = split_level(marks, caps, &mut shares);
     if l.refusal != 0 {
         println!("level refused {} at {} short {}", l.refusal, l.place, l.shortfall);
     } else {
@@ -136,9 +172,9 @@ fn print_level(caps: &[u64]) {
     }
 }
 
-fn print_by_arc() {
-    let mut shares = [0; 3];
-    let m = split_by_arc(&mut shares);
+fn print_by_arc(marks: &[u16], members: usize) {
+    let mut shares = vec![0; members];
+    let m = split_by_arc(marks, &mut shares);
     if m.refusal != 0 {
         println!("by-arc refused {} at {}", m.refusal, m.place);
     } else {
@@ -147,11 +183,20 @@ fn print_by_arc() {
 }
 
 fn main() {
-    print_audit(&[7, 5, 4]);
-    print_audit(&[8, 4, 4]);
-    print_audit(&[8, 4, 5]);
-    print_audit(&[8, 4, 2_000_000_000_001]);
-    print_level(&[100, 100, 100]);
-    print_level(&[3, 8, 100]);
-    print_by_arc();
+    let mut marks = [0; 4];
+    let m = mark_dead_ends(&mut marks);
+    if m.refusal != 0 {
+        println!("tree refused {} at {}", m.refusal, m.place);
+        return;
+    }
+    print_audit(&marks, &[7, 5, 4]);
+    print_audit(&marks, &[8, 4, 4]);
+    print_audit(&marks, &[8, 4, 5]);
+    print_audit(&marks, &[8, 4, 2_000_000_000_001]);
+    print_level(&marks, &[100, 100, 100]);
+    print_level(&marks, &[3, 8, 100]);
+    print_by_arc(&marks, m.members);
+    // Vertex 3 is a plot that is not yet sold: nobody pays for its arc.
+    marks[2] = 0;
+    print_by_arc(&marks, m.members - 1);
 }

@@ -1,8 +1,10 @@
 /* Zilqodur: sharing the cost of a rooted pipe tree among its members. All amounts are whole units, exactly.
  *
  * Tree. Vertex 0 is the source. Arc k, for k from 1 to m, enters vertex k from its parent, a vertex numbered below k. m is 1 to 1,023.
- * Entry 0 of `parents` and of `costs` belongs to arc 1; a cost is 0 to 1,000,000,000. A vertex other than 0 without a child is a
- * member. Members are numbered from 0 in rising vertex number. An arc's users are the members at or below the vertex that it enters.
+ * Entry 0 of `parents` and of `costs` belongs to arc 1, entry 0 of `marks` to vertex 1. A cost is 0 to 1,000,000,000. A mark is 1 where a
+ * member lives and 0 elsewhere; at least one is 1, and a vertex with a child has 0. Members are the marked vertices, numbered from 0 in
+ * rising vertex number. An arc's users are the members at or below the vertex that it enters. An arc that nobody uses costs nothing:
+ * its cost counts as 0.
  *
  * Group. Sixteen 64-bit words: member j is bit j % 64 of word j / 64, bit 0 being the least significant.
  *
@@ -49,7 +51,10 @@ enum ZilqodurRefusal {
     ZILQODUR_JOB_SIGNATURE = 12,
     ZILQODUR_JOB_LAYOUT = 13,
     ZILQODUR_JOB_FILLER = 14, /* [arc] */
-    ZILQODUR_JOB_MEMBERS = 15
+    ZILQODUR_JOB_MEMBERS = 15,
+    ZILQODUR_MARK = 16, /* [arc] */
+    ZILQODUR_MARK_CHILD = 17, /* [arc] */
+    ZILQODUR_NO_MARK = 18
 };
 
 /* What a refusal's number says, as a sentence for a person. The strings are constants; nobody frees them. */
@@ -57,7 +62,7 @@ static inline const char *zilqodur_refusal_text(uint32_t refusal) {
     switch (refusal) {
         case ZILQODUR_NO_REFUSAL: return "no refusal";
         case ZILQODUR_ARC_COUNT: return "the parent list has no entry, or more than 1,023";
-        case ZILQODUR_TREE_LENGTHS: return "the parent list and the cost list differ in length";
+        case ZILQODUR_TREE_LENGTHS: return "the parent list differs in length from the cost list or the mark list";
         case ZILQODUR_PARENT: return "a parent is not below its arc's number";
         case ZILQODUR_COST: return "a cost is above 1,000,000,000";
         case ZILQODUR_GROUP_BIT: return "the group has a bit at or beyond the number of members";
@@ -71,11 +76,14 @@ static inline const char *zilqodur_refusal_text(uint32_t refusal) {
         case ZILQODUR_JOB_LAYOUT: return "the job's note is longer than 255 bytes, or its parts do not meet and end exactly";
         case ZILQODUR_JOB_FILLER: return "a filler in the job is not zero";
         case ZILQODUR_JOB_MEMBERS: return "the job's number of members is not its tree's";
+        case ZILQODUR_MARK: return "a mark is neither 0 nor 1";
+        case ZILQODUR_MARK_CHILD: return "a marked vertex has a child";
+        case ZILQODUR_NO_MARK: return "no vertex is marked";
         default: return "no refusal has this number";
     }
 }
 
-/* The greatest number of arcs, and so of members, of a tree: the number of entries that zilqodur_read_job asks of each of its four lists. */
+/* The greatest number of arcs, and so of members, of a tree: the entries that zilqodur_read_job asks of each of its four lists. */
 #define ZILQODUR_MOST_ARCS 1023
 
 /* The number of bytes that zilqodur_report asks of its `out`: room for the longest report. */
@@ -95,7 +103,7 @@ typedef struct ZilqodurMembers {
 typedef struct ZilqodurNeeds {
     uint32_t refusal;
     size_t place;
-    uint64_t whole; /* the sum of all costs */
+    uint64_t whole; /* the whole cost: the sum of the costs of all arcs that have a user */
     size_t members; /* the number of members */
 } ZilqodurNeeds;
 
@@ -144,46 +152,54 @@ typedef struct ZilqodurReport {
     size_t length;    /* the number of bytes of the report */
 } ZilqodurReport;
 
-/* Whether the lists describe a tree. Refusals 1, 2, then 3 and 4 arc by arc: the tree's refusals. */
-ZilqodurCheck zilqodur_check_tree(const uint16_t *parents, size_t parent_count, const uint32_t *costs, size_t cost_count);
+/* Whether the lists describe a tree. Refusals 1, 2, then 3, 4, 16 and 17 arc by arc, then 18: the tree's refusals. */
+ZilqodurCheck zilqodur_check_tree(const uint16_t *parents, size_t parents_count, const uint32_t *costs, size_t costs_count,
+                                  const uint16_t *marks, size_t marks_count);
 
 /* Whether there is one cap for each of so many members, each from 0 to 2,000,000,000,000. Refusals 6, 7. */
-ZilqodurCheck zilqodur_check_caps(size_t members, const uint64_t *caps, size_t cap_count);
+ZilqodurCheck zilqodur_check_caps(size_t members, const uint64_t *caps, size_t caps_count);
 
 /* Whether there is one share for each of so many members, each from -2,000,000,000,000 to 2,000,000,000,000. Refusals 6, 7. */
-ZilqodurCheck zilqodur_check_proposal(size_t members, const int64_t *proposal, size_t share_count);
+ZilqodurCheck zilqodur_check_proposal(size_t members, const int64_t *proposal, size_t proposal_count);
+
+/* Writes the marks of a tree with a member at every dead end: 1 for a vertex without a child, else 0. `out` has one entry an arc, entry
+ * 0 for vertex 1. Refusals: 1, 2 on the costs alone, then 3 and 4 arc by arc, then 8. */
+ZilqodurMembers zilqodur_mark_dead_ends(const uint16_t *parents, size_t parents_count, const uint32_t *costs, size_t costs_count,
+                                        uint16_t *out, size_t out_count);
 
 /* The number of members. Refusals: the tree's. */
-ZilqodurMembers zilqodur_count_members(const uint16_t *parents, size_t parent_count, const uint32_t *costs, size_t cost_count);
+ZilqodurMembers zilqodur_count_members(const uint16_t *parents, size_t parents_count, const uint32_t *costs, size_t costs_count,
+                                       const uint16_t *marks, size_t marks_count);
 
 /* Writes the members' vertices, in rising order. `out` has one entry a member. Refusals: the tree's, 8. */
-ZilqodurMembers zilqodur_list_members(const uint16_t *parents, size_t parent_count, const uint32_t *costs, size_t cost_count,
-                                      uint16_t *out, size_t out_count);
+ZilqodurMembers zilqodur_list_members(const uint16_t *parents, size_t parents_count, const uint32_t *costs, size_t costs_count,
+                                      const uint16_t *marks, size_t marks_count, uint16_t *out, size_t out_count);
 
-/* Writes each arc's need: its cost plus the costs of all arcs below it. `out` has one entry an arc, entry 0 for arc 1.
- * Refusals: the tree's, 8. */
-ZilqodurNeeds zilqodur_list_needs(const uint16_t *parents, size_t parent_count, const uint32_t *costs, size_t cost_count,
-                                  uint64_t *out, size_t out_count);
+/* Writes each arc's need: its cost plus the costs of all arcs below it, so 0 where it has no user. `out` has one entry an arc, entry 0 for
+ * arc 1. Refusals: the tree's, 8. */
+ZilqodurNeeds zilqodur_list_needs(const uint16_t *parents, size_t parents_count, const uint32_t *costs, size_t costs_count,
+                                  const uint16_t *marks, size_t marks_count, uint64_t *out, size_t out_count);
 
 /* The size and the cost of a group, which is sixteen words. Refusals: the tree's, 5. */
-ZilqodurGroup zilqodur_group_cost(const uint16_t *parents, size_t parent_count, const uint32_t *costs, size_t cost_count,
-                                  const uint64_t group[16]);
+ZilqodurGroup zilqodur_group_cost(const uint16_t *parents, size_t parents_count, const uint32_t *costs, size_t costs_count,
+                                  const uint16_t *marks, size_t marks_count, const uint64_t group[16]);
 
-/* Whether the proposal adds up to the whole cost and, if so, whether some group pays more than it costs. `proposal` has one share a member,
- * each from -2,000,000,000,000 to 2,000,000,000,000. Refusals: the tree's, 6, 7. */
-ZilqodurAudit zilqodur_audit(const uint16_t *parents, size_t parent_count, const uint32_t *costs, size_t cost_count,
-                             const int64_t *proposal, size_t share_count);
+/* Whether the proposal adds up to the whole cost and, if so, whether some group pays more than it costs. `proposal` has one share a
+ * member, each from -2,000,000,000,000 to 2,000,000,000,000. Refusals: the tree's, 6, 7. */
+ZilqodurAudit zilqodur_audit(const uint16_t *parents, size_t parents_count, const uint32_t *costs, size_t costs_count,
+                             const uint16_t *marks, size_t marks_count, const int64_t *proposal, size_t proposal_count);
 
 /* Writes the level split: arcs from m down to 1, each unit of an arc's cost to the user with the smallest share among users below their
  * cap, ties to the lowest member number. `caps` has one cap a member, each from 0 to 2,000,000,000,000; `out` has one entry a member.
  * Refusals: the tree's, 6, 7, 8, 9; 9 is at the first arc in this order whose users' caps add up to less than its need. */
-ZilqodurLevel zilqodur_split_level(const uint16_t *parents, size_t parent_count, const uint32_t *costs, size_t cost_count,
-                                   const uint64_t *caps, size_t cap_count, uint64_t *out, size_t out_count);
+ZilqodurLevel zilqodur_split_level(const uint16_t *parents, size_t parents_count, const uint32_t *costs, size_t costs_count,
+                                   const uint16_t *marks, size_t marks_count, const uint64_t *caps, size_t caps_count,
+                                   uint64_t *out, size_t out_count);
 
-/* Writes the by-arc split: an arc with k users and cost c gives each user c / k, and one unit more to the c % k lowest-numbered users.
- * `out` has one entry a member. Refusals: the tree's, 8. */
-ZilqodurMembers zilqodur_split_by_arc(const uint16_t *parents, size_t parent_count, const uint32_t *costs, size_t cost_count,
-                                      uint64_t *out, size_t out_count);
+/* Writes the by-arc split: an arc with k users and cost c gives each user c / k, and one unit more to the c % k lowest-numbered users; an
+ * arc without users is passed over. `out` has one entry a member. Refusals: the tree's, 8. */
+ZilqodurMembers zilqodur_split_by_arc(const uint16_t *parents, size_t parents_count, const uint32_t *costs, size_t costs_count,
+                                      const uint16_t *marks, size_t marks_count, uint64_t *out, size_t out_count);
 
 /* Reads a job's bytes into the front of the four lists and keeps their other entries. Each list has at least ZILQODUR_MOST_ARCS entries.
  * A job has four parts, each beginning where the one before it ends. Numbers are little-endian; their widths in bytes stand in brackets.
@@ -192,19 +208,20 @@ ZilqodurMembers zilqodur_split_by_arc(const uint16_t *parents, size_t parent_cou
  *     member rows    a row a member, from member 0 on: its cap (8), its proposed share (8, two's complement)
  *     trailer        how many bytes stand before the arc rows (4) and how many before the member rows (4), the number of arc rows (2) and
  *                    of member rows (2), the version, which is 1 (2), and last the two closing bytes 0x54 and 0x4A
- * No other function refuses the entries that it writes by the tree's refusals, 6 or 7. Refusals, in this order: 10 to 14, 1, 3, 4, 15, 7 on caps,
- * 7 on proposals. */
-ZilqodurJob zilqodur_read_job(const uint8_t *bytes, size_t byte_count, uint16_t *parents, size_t parent_count, uint32_t *costs,
-                              size_t cost_count, uint64_t *caps, size_t cap_count, int64_t *proposals, size_t proposal_count);
+ * A job of version 1 marks every dead end: zilqodur_mark_dead_ends writes the marks for its parents and costs. With them no function
+ * refuses the entries written here by the tree's refusals, 6 or 7. Refusals, in this order: 10 to 14, 1, 3, 4, 15, 7 on caps, 7 on
+ * proposals. */
+ZilqodurJob zilqodur_read_job(const uint8_t *bytes, size_t bytes_count, uint16_t *parents, size_t parents_count, uint32_t *costs,
+                              size_t costs_count, uint64_t *caps, size_t caps_count, int64_t *proposals, size_t proposals_count);
 
-/* Writes the report on a job's bytes to the front of `out`, as ASCII text; each line ends in a newline and no zero byte follows the last. The
- * other bytes of `out` keep their content. Nothing is refused: on a job that zilqodur_read_job refuses by 11 to 15, 1, 3, 4 or 7 the report is the
- * line `refused N at PLACE`. Otherwise its lines are
+/* Writes the report on a job's bytes to the front of `out`, as ASCII text; each line ends in a newline and no zero byte follows the last.
+ * The other bytes of `out` keep their content. Nothing is refused: on a job that zilqodur_read_job refuses by 11 to 15, 1, 3, 4 or 7 the
+ * report is the line `refused N at PLACE`. Otherwise its lines are
  *     cost C members N                       the whole cost, the number of members
  *     audit group A of S: J J J              the audit's amount, size and group; or `audit total D`, the difference; or `audit pass`
  *     level ok                               or `level refused 9 at ARC short D`
  *     J at V: proposed P by-arc B level L    one line a member: number, vertex, three shares; L is `-` where the level split is refused */
-ZilqodurReport zilqodur_report(const uint8_t *bytes, size_t byte_count, uint8_t out[ZILQODUR_REPORT_ROOM]);
+ZilqodurReport zilqodur_report(const uint8_t *bytes, size_t bytes_count, uint8_t out[ZILQODUR_REPORT_ROOM]);
 
 #ifdef __cplusplus
 }

@@ -18,14 +18,14 @@ from job import read_job
 from level import level_split
 from make import job as packed
 from networks import T, U, W, broom, chain, comb, random_caps, random_proposal, random_tree, star
-from rules import MOST_ARCS, MOST_CAP, Refusal, best_group, member_vertices
+from rules import MOST_ARCS, MOST_CAP, Refusal, all_marked, best_group, member_count, member_vertices, whole_cost
 
 
-def audit_line(parents, costs, proposal):
-    difference = sum(proposal) - sum(costs)
+def audit_line(tree, proposal):
+    difference = sum(proposal) - whole_cost(tree)
     if difference:
         return f"audit total {difference}"
-    over, group = best_group(parents, costs, proposal)
+    over, group = best_group(tree, proposal)
     if over == 0:
         return "audit pass"
     return f"audit group {over} of {len(group)}: " + " ".join(map(str, group))
@@ -38,23 +38,23 @@ def lines(data):
         arcs, count, _ = read_job(data, *lists)
     except Refusal as refusal:
         return [str(refusal)]
-    parents, costs = lists[0][:arcs], lists[1][:arcs]
+    tree = all_marked(lists[0][:arcs], lists[1][:arcs])
     caps, proposal = lists[2][:count], lists[3][:count]
-    found = [f"cost {sum(costs)} members {count}", audit_line(parents, costs, proposal)]
+    found = [f"cost {whole_cost(tree)} members {count}", audit_line(tree, proposal)]
     try:
-        level = level_split(parents, costs, caps)
+        level = level_split(tree, caps)
         found.append("level ok")
     except Refusal as refusal:
         level = ["-"] * count
         found.append(f"level {refusal} short {refusal.shortfall}")
-    by_arc = by_arc_split(parents, costs)
-    for j, vertex in enumerate(member_vertices(parents)):
+    by_arc = by_arc_split(tree)
+    for j, vertex in enumerate(member_vertices(tree)):
         found.append(f"{j} at {vertex}: proposed {proposal[j]} by-arc {by_arc[j]} level {level[j]}")
     return found
 
 
 def job_of(tree, caps, proposal, note=b""):
-    return packed(note, list(zip(*tree)), list(zip(caps, proposal)))
+    return packed(note, list(zip(tree.parents, tree.costs)), list(zip(caps, proposal)))
 
 
 def jobs():
@@ -67,13 +67,13 @@ def jobs():
     for size in (0, 15, 16, 24_823, 24_824, 30_000):
         yield bytes(size)
     for shape in (chain, star, broom, comb):
-        parents = shape(1023)
-        count = len(member_vertices(parents))
-        yield job_of((parents, [10**9] * 1023), [MOST_CAP] * count, [-(2 * 10**12)] * count, bytes(255))
+        tree = all_marked(shape(1023), [10**9] * 1023)
+        count = member_count(tree)
+        yield job_of(tree, [MOST_CAP] * count, [-(2 * 10**12)] * count, bytes(255))
     dice = random.Random(20261115)
     for arcs in [dice.randint(1, 12) for _ in range(60)]:
         tree = random_tree(dice, arcs)
-        data = job_of(tree, random_caps(dice, *tree), random_proposal(dice, *tree), bytes(dice.randrange(4)))
+        data = job_of(tree, random_caps(dice, tree), random_proposal(dice, tree), bytes(dice.randrange(4)))
         yield data
         at = dice.randrange(len(data))
         yield data[:at] + bytes([dice.randrange(256)]) + data[at + 1 :]

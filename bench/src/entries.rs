@@ -7,7 +7,8 @@ use crate::reference::ARCS;
 use crate::{best, ffi, same};
 use std::hint::black_box;
 
-pub const ENTRIES: [&str; 5] = ["needs", "audit", "by-arc", "level", "job reader"];
+#[rustfmt::skip]
+pub const ENTRIES: [&str; 6] = ["needs", "audit", "by-arc", "level", "job reader", "dead ends"];
 
 pub const LEVEL: usize = 3;
 
@@ -51,31 +52,35 @@ impl Lists {
 }
 
 /// A call's answer with the list that it wrote.
-fn written<T>(length: usize, call: impl Fn(&mut [u64]) -> T) -> (T, Vec<u64>) {
-    let mut out = vec![7; length];
+fn written<E: Clone + From<u8>, T>(length: usize, call: impl Fn(&mut [E]) -> T) -> (T, Vec<E>) {
+    let mut out = vec![E::from(7); length];
     (call(&mut out), out)
 }
 
 /// Panics where two answers or lists differ.
 pub fn compare(n: &Network) {
-    let (p, c, caps) = (&n.parents[..], &n.costs[..], &n.caps[..]);
+    let (p, c, m, caps) = (&n.parents[..], &n.costs[..], &n.marks[..], &n.caps[..]);
     assert_eq!(
-        written(p.len(), |out| ffi::list_needs(p, c, out)),
-        written(p.len(), |out| same::list_needs(p, c, out)),
+        written(p.len(), |out| ffi::list_needs(p, c, m, out)),
+        written(p.len(), |out| same::list_needs(p, c, m, out)),
     );
     assert_eq!(
-        ffi::audit(p, c, &n.proposal),
-        same::audit(p, c, &n.proposal)
+        ffi::audit(p, c, m, &n.proposal),
+        same::audit(p, c, m, &n.proposal)
     );
     assert_eq!(
-        written(n.members, |out| ffi::split_by_arc(p, c, out)),
-        written(n.members, |out| same::split_by_arc(p, c, out)),
+        written(n.members, |out| ffi::split_by_arc(p, c, m, out)),
+        written(n.members, |out| same::split_by_arc(p, c, m, out)),
     );
-    let level = written(n.members, |out| ffi::split_level(p, c, caps, out));
-    let same = written(n.members, |out| same::split_level(p, c, caps, out));
+    let level = written(n.members, |out| ffi::split_level(p, c, m, caps, out));
+    let same = written(n.members, |out| same::split_level(p, c, m, caps, out));
     assert_eq!(level, same);
-    let best = written(n.members, |out| best::split_level(p, c, caps, out));
+    let best = written(n.members, |out| best::split_level(p, c, m, caps, out));
     assert_eq!(level, best);
+    assert_eq!(
+        written(p.len(), |out| ffi::mark_dead_ends(p, c, out)),
+        written(p.len(), |out| same::mark_dead_ends(p, c, out)),
+    );
     let (mut a, mut b) = (LISTS, LISTS);
     let read = a.fill(ffi::read_job, &n.job);
     assert_eq!(read, b.fill(same::read_job, &n.job));
@@ -92,38 +97,38 @@ fn used<T>(answer: T) {
 type Calls<'a> = Vec<Box<dyn FnMut() + 'a>>;
 
 fn needs(n: &Network) -> Calls<'_> {
-    let (p, c) = (&n.parents[..], &n.costs[..]);
+    let (p, c, m) = (&n.parents[..], &n.costs[..], &n.marks[..]);
     let (mut a, mut b) = (vec![0; p.len()], vec![0; p.len()]);
     vec![
-        Box::new(move || used(ffi::list_needs(black_box(p), c, &mut a))),
-        Box::new(move || used(same::list_needs(black_box(p), c, &mut b))),
+        Box::new(move || used(ffi::list_needs(black_box(p), c, m, &mut a))),
+        Box::new(move || used(same::list_needs(black_box(p), c, m, &mut b))),
     ]
 }
 
 fn audit(n: &Network) -> Calls<'_> {
-    let (p, c, x) = (&n.parents[..], &n.costs[..], &n.proposal[..]);
+    let (p, c, m, x) = (&n.parents[..], &n.costs[..], &n.marks[..], &n.proposal[..]);
     vec![
-        Box::new(move || used(ffi::audit(black_box(p), c, x))),
-        Box::new(move || used(same::audit(black_box(p), c, x))),
+        Box::new(move || used(ffi::audit(black_box(p), c, m, x))),
+        Box::new(move || used(same::audit(black_box(p), c, m, x))),
     ]
 }
 
 fn by_arc(n: &Network) -> Calls<'_> {
-    let (p, c) = (&n.parents[..], &n.costs[..]);
+    let (p, c, m) = (&n.parents[..], &n.costs[..], &n.marks[..]);
     let (mut a, mut b) = (vec![0; n.members], vec![0; n.members]);
     vec![
-        Box::new(move || used(ffi::split_by_arc(black_box(p), c, &mut a))),
-        Box::new(move || used(same::split_by_arc(black_box(p), c, &mut b))),
+        Box::new(move || used(ffi::split_by_arc(black_box(p), c, m, &mut a))),
+        Box::new(move || used(same::split_by_arc(black_box(p), c, m, &mut b))),
     ]
 }
 
 fn level(n: &Network) -> Calls<'_> {
-    let (p, c, caps) = (&n.parents[..], &n.costs[..], &n.caps[..]);
+    let (p, c, m, caps) = (&n.parents[..], &n.costs[..], &n.marks[..], &n.caps[..]);
     let (mut a, mut b, mut d) = (vec![0; n.members], vec![0; n.members], vec![0; n.members]);
     vec![
-        Box::new(move || used(ffi::split_level(black_box(p), c, caps, &mut a))),
-        Box::new(move || used(same::split_level(black_box(p), c, caps, &mut b))),
-        Box::new(move || used(best::split_level(black_box(p), c, caps, &mut d))),
+        Box::new(move || used(ffi::split_level(black_box(p), c, m, caps, &mut a))),
+        Box::new(move || used(same::split_level(black_box(p), c, m, caps, &mut b))),
+        Box::new(move || used(best::split_level(black_box(p), c, m, caps, &mut d))),
     ]
 }
 
@@ -135,8 +140,17 @@ fn job(n: &Network) -> Calls<'_> {
     ]
 }
 
+fn dead_ends(n: &Network) -> Calls<'_> {
+    let (p, c) = (&n.parents[..], &n.costs[..]);
+    let (mut a, mut b) = (vec![0; p.len()], vec![0; p.len()]);
+    vec![
+        Box::new(move || used(ffi::mark_dead_ends(black_box(p), c, &mut a))),
+        Box::new(move || used(same::mark_dead_ends(black_box(p), c, &mut b))),
+    ]
+}
+
 /// The calls of each entry, in the order of their names.
-const CALLS: [fn(&Network) -> Calls<'_>; 5] = [needs, audit, by_arc, level, job];
+const CALLS: [fn(&Network) -> Calls<'_>; 6] = [needs, audit, by_arc, level, job, dead_ends];
 
 /// The times of one entry on each of the networks.
 pub fn measure(entry: usize, networks: &[Network]) -> Vec<Times> {

@@ -1,7 +1,7 @@
 //! The networks that are measured, and the lists that go with them.
 
 use crate::job::Job;
-use crate::reference::{Tree, AMOUNT, COST};
+use crate::reference::{dead_ends, Tree, AMOUNT, COST};
 use crate::rng::Rng;
 
 #[derive(Clone, Copy)]
@@ -13,10 +13,11 @@ pub enum Shape {
     Binary,
     Random,
     DeepRandom,
+    HalfSpare,
 }
 
 #[rustfmt::skip]
-pub const SHAPES: [(Shape, &str); 7] = [
+pub const SHAPES: [(Shape, &str); 8] = [
     (Shape::Star, "star"),
     (Shape::Chain, "chain"),
     (Shape::Caterpillar, "caterpillar"),
@@ -24,6 +25,7 @@ pub const SHAPES: [(Shape, &str); 7] = [
     (Shape::Binary, "binary"),
     (Shape::Random, "random"),
     (Shape::DeepRandom, "random, deep"),
+    (Shape::HalfSpare, "random, half spare"),
 ];
 
 impl Shape {
@@ -36,20 +38,32 @@ impl Shape {
             // A chain of half the arcs, then members.
             Shape::Broom => (k - 1).min(arcs / 2),
             Shape::Binary => (k - 1) / 2,
-            Shape::Random => rng.below(k),
+            Shape::Random | Shape::HalfSpare => rng.below(k),
             Shape::DeepRandom => k - 1 - rng.below(k.min(4)),
         }
+    }
+
+    /// Every dead end is marked; of a network that is half spare every second.
+    fn marks(self, parents: &[u16]) -> Vec<u16> {
+        let mut marks = dead_ends(parents);
+        if let Shape::HalfSpare = self {
+            let ends = marks.iter_mut().filter(|mark| **mark == 1);
+            ends.skip(1).step_by(2).for_each(|mark| *mark = 0);
+        }
+        marks
     }
 }
 
 pub struct Network {
     pub parents: Vec<u16>,
     pub costs: Vec<u32>,
+    pub marks: Vec<u16>,
     pub members: usize,
     /// The sum over all arcs of the number of their users.
     pub users: usize,
     pub caps: Vec<u64>,
     pub proposal: Vec<i64>,
+    /// A job with the same parents and costs, in which every dead end is marked.
     pub job: Vec<u8>,
 }
 
@@ -92,24 +106,34 @@ impl Network {
         let parents: Vec<u16> = (1..=arcs).map(parent).collect();
         let cost = |_| rng.up_to(u64::from(most_cost.min(COST))) as u32;
         let costs: Vec<u32> = (0..arcs).map(cost).collect();
-        let tree = Tree::new(&parents, &costs).expect("the tree is accepted");
+        let marks = shape.marks(&parents);
+        let tree = Tree::new(&parents, &costs, &marks).expect("the tree is accepted");
         let shares = tree.by_arc();
-        let job = Job {
-            note: b"a note of 24 bytes, free".to_vec(),
-            fillers: vec![0; arcs],
-            caps: caps(rng, kind, &shares, tree.whole()),
-            proposals: proposal(rng, &shares),
-            parents,
-            costs,
-        };
         Network {
             members: shares.len(),
             users: tree.users.iter().map(Vec::len).sum(),
-            job: job.write(),
-            parents: job.parents,
-            costs: job.costs,
-            caps: job.caps,
-            proposal: job.proposals,
+            caps: caps(rng, kind, &shares, tree.whole()),
+            proposal: proposal(rng, &shares),
+            job: job(rng, kind, &parents, &costs),
+            parents,
+            costs,
+            marks,
         }
     }
+}
+
+fn job(rng: &mut Rng, kind: Caps, parents: &[u16], costs: &[u32]) -> Vec<u8> {
+    let mut job = Job {
+        note: b"a note of 24 bytes, free".to_vec(),
+        parents: parents.to_vec(),
+        fillers: vec![0; parents.len()],
+        costs: costs.to_vec(),
+        caps: Vec::new(),
+        proposals: Vec::new(),
+    };
+    let tree = job.tree().expect("the tree is accepted");
+    let shares = tree.by_arc();
+    job.caps = caps(rng, kind, &shares, tree.whole());
+    job.proposals = proposal(rng, &shares);
+    job.write()
 }

@@ -1,8 +1,8 @@
 #!/usr/bin/env python3
 """Writes the cases of this program, `stdin`, and the lines that it must print, `stdout`.
 
-The answers are worked out in `script`, straight from docs/SPECIFICATION.md and with no call of the engine. The files go into the folder
-that is named, or else beside this script.
+The answers are worked out in `script`, straight from docs/SPECIFICATION.md and with no call of the engine. The files
+go into the folder that is named, or else beside this script.
 """
 import sys
 from pathlib import Path
@@ -10,9 +10,9 @@ from pathlib import Path
 sys.dont_write_bytecode = True
 sys.path.insert(0, str(Path(__file__).resolve().parent / "script"))
 
-from rules import MOST_COST, WORDS, words_of
+from rules import MOST_COST, WORDS, Tree, all_marked, words_of
 from entries import answer, question
-from networks import T, U, W, chain
+from networks import T, T_SPARE, U, W, chain
 from trees import group_bits, large_trees, limits, random_trees, refusal_order, small_networks
 from audits import (
     deep_audits,
@@ -35,7 +35,10 @@ from levels import (
     worst_levels,
 )
 from divisions import division_refusals, large_divisions, leftovers, random_divisions
+from marks import many_marks, random_marks, small_marks, spare_networks
+from pruned import check_pruned
 from jobs import (
+    T_ARCS,
     form_order,
     full_jobs,
     gaps,
@@ -69,46 +72,55 @@ LARGE = MOST_COST + 1
 
 # the specification's networks to try (§10), with their answers by hand
 STATED = [
-    (("members", *T, 3), "members 3: 2,3,4"),
-    (("needs", *T, 4), "whole 16 members 3: 12,1,5,4"),
-    (("group", *T, words_of([])), "size 0 cost 0"),
-    (("group", *T, words_of([0])), "size 1 cost 7"),
-    (("group", *T, words_of([0, 1])), "size 2 cost 12"),
-    (("group", *T, words_of([1, 2])), "size 2 cost 15"),
-    (("check", [0], [MOST_COST]), "accepted"),
-    (("check", [0], [MOST_COST + 1]), "refused 4 at 1"),
-    (("check", [1], [5]), "refused 3 at 1"),
-    (("check", chain(1023), [1] * 1023), "accepted"),
-    (("check", chain(1024), [1] * 1024), "refused 1 at 0"),
-    (("group", *T, words_of([2])), "size 1 cost 4"),
-    (("group", *T, words_of([3])), "refused 5 at 3"),
-    (("audit", *T, [7, 5, 4]), beside_words("pass")),
-    (("audit", *T, [8, 4, 4]), beside_words("group 1 of 1", 1)),
-    (("audit", *T, [8, 4, 5]), beside_words("total 1")),
-    (("audit", *T, [-1, 13, 4]), beside_words("group 2 of 1", 2)),
-    (("audit", *T, [6, 5, 5]), beside_words("group 1 of 1", 4)),
-    (("audit", *W, [7, 7, 6]), beside_words("group 2 of 2", 3)),
-    (("level", *T, [100, 100, 100], 3), "split 3: 6,6,4"),
-    (("level", *T, [3, 9, 4], 3), "split 3: 3,9,4"),
-    (("level", *T, [3, 8, 100], 3), "refused 9 at 1 short 1: 9,9,9"),
-    (("level", *U, [3, 100], 2), "split 2: 3,4"),
-    (("byarc", *T, 3), "members 3: 4,8,4"),
-    (("byarc", *U, 2), "members 2: 4,3"),
+    (("members", T, 3), "members 3: 2,3,4"),
+    (("needs", T, 4), "whole 16 members 3: 12,1,5,4"),
+    (("group", T, words_of([])), "size 0 cost 0"),
+    (("group", T, words_of([0])), "size 1 cost 7"),
+    (("group", T, words_of([0, 1])), "size 2 cost 12"),
+    (("group", T, words_of([1, 2])), "size 2 cost 15"),
+    (("check", all_marked([0], [MOST_COST])), "accepted"),
+    (("check", all_marked([0], [MOST_COST + 1])), "refused 4 at 1"),
+    (("check", all_marked([1], [5])), "refused 3 at 1"),
+    (("check", all_marked(chain(1023), [1] * 1023)), "accepted"),
+    (("check", all_marked(chain(1024), [1] * 1024)), "refused 1 at 0"),
+    (("group", T, words_of([2])), "size 1 cost 4"),
+    (("group", T, words_of([3])), "refused 5 at 3"),
+    (("audit", T, [7, 5, 4]), beside_words("pass")),
+    (("audit", T, [8, 4, 4]), beside_words("group 1 of 1", 1)),
+    (("audit", T, [8, 4, 5]), beside_words("total 1")),
+    (("audit", T, [-1, 13, 4]), beside_words("group 2 of 1", 2)),
+    (("audit", T, [6, 5, 5]), beside_words("group 1 of 1", 4)),
+    (("audit", W, [7, 7, 6]), beside_words("group 2 of 2", 3)),
+    (("level", T, [100, 100, 100], 3), "split 3: 6,6,4"),
+    (("level", T, [3, 9, 4], 3), "split 3: 3,9,4"),
+    (("level", T, [3, 8, 100], 3), "refused 9 at 1 short 1: 9,9,9"),
+    (("level", U, [3, 100], 2), "split 2: 3,4"),
+    (("byarc", T, 3), "members 3: 4,8,4"),
+    (("byarc", U, 2), "members 2: 4,3"),
+    (("count", T_SPARE), "members 2"),
+    (("needs", T_SPARE, 4), "whole 11 members 2: 7,1,0,4"),
+    (("group", T_SPARE, words_of([0])), "size 1 cost 7"),
+    (("level", T_SPARE, [100, 100], 2), "split 2: 7,4"),
+    (("byarc", T_SPARE, 2), "members 2: 7,4"),
+    (("deadends", T.parents, T.costs, 4), "members 3: 0,1,1,1"),
+    (("check", T._replace(marks=[0, 1, 2, 1])), "refused 16 at 3"),
+    (("check", T._replace(marks=[1, 1, 1, 1])), "refused 17 at 1"),
+    (("check", T._replace(marks=[0, 0, 0, 0])), "refused 18 at 0"),
     (read(T_BYTES), "read 4 3 0: 0,1,1,0: 6,1,5,4: 100,100,100: 8,4,4; others kept"),
     (read(plain([0], [7], note=b"ab")), "read 1 1 2: 0: 7: 100: -1; others kept"),
     (read(T_BYTES, [1023, 1023, 1023, 1022]), "refused 10 at 0; others kept"),
     (read(b""), "refused 11 at 0; others kept"),
     (read(T_BYTES[:-1] + b"j"), "refused 12 at 0; others kept"),
     (read(b"x" + T_BYTES), "refused 13 at 0; others kept"),
-    (read(plain(*T, fillers={3: 256})), "refused 14 at 3; others kept"),
+    (read(plain(*T_ARCS, fillers={3: 256})), "refused 14 at 3; others kept"),
     (read(job([0] * 1024, [1] * 1024, [], [])), "refused 1 at 0; others kept"),
     (read(job([0] * 1024, [1] * 1024, [], [], fillers={1024: 1})), "refused 14 at 1024; others kept"),
     (read(job([], [], [], [])), "refused 1 at 0; others kept"),
     (read(plain([0, 2], [LARGE, 1])), "refused 4 at 1; others kept"),
     (read(plain([1], [LARGE])), "refused 3 at 1; others kept"),
-    (read(job(*T, [9, 9], [9, 9])), "refused 15 at 0; others kept"),
-    (read(job(*T, [9, 9, 2**64 - 1], [-(2**63), 9, 9])), "refused 7 at 2; others kept"),
-    (read(job(*T, [9, 9, 9], [9, -(2**63), 2**63 - 1])), "refused 7 at 1; others kept"),
+    (read(job(*T_ARCS, [9, 9], [9, 9])), "refused 15 at 0; others kept"),
+    (read(job(*T_ARCS, [9, 9, 2**64 - 1], [-(2**63), 9, 9])), "refused 7 at 2; others kept"),
+    (read(job(*T_ARCS, [9, 9, 9], [9, -(2**63), 2**63 - 1])), "refused 7 at 1; others kept"),
 ]
 
 PARTS = [
@@ -138,6 +150,10 @@ PARTS = [
     large_divisions,
     division_refusals,
     random_divisions,
+    small_marks,
+    spare_networks,
+    many_marks,
+    random_marks,
     job_notes,
     full_jobs,
     many_arcs,
@@ -167,6 +183,9 @@ def main(folder):
     cases = [case for case, _ in STATED]
     for part in PARTS:
         cases += part()
+    for case in cases:
+        if isinstance(case[1], Tree):
+            check_pruned(case)
     size = write(folder / "stdin", [question(case) for case in cases] + UNREADABLE)
     write(folder / "stdout", [answer(case) for case in cases] + ["bad case"] * len(UNREADABLE))
     assert size <= MOST_INPUT, size

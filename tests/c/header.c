@@ -1,6 +1,6 @@
-/* Calls every function of zilqodur.h on the tree T of the specification, and some on the largest star, and looks at every field, list and refusal.
- * It is compiled as C99 and as C++11: where the header is not the archive's it does not compile, does not link, or names the lines that
- * do not hold. */
+/* Calls every function of zilqodur.h on the tree T of the specification, and some on the largest star, and looks at every field, list and
+ * refusal. It is compiled as C99 and as C++11: where the header is not the archive's it does not compile, does not link, or names the lines
+ * that do not hold. */
 #include "zilqodur.h"
 
 #include <stdio.h>
@@ -12,9 +12,16 @@
 
 static const uint16_t parents[ARCS] = {0, 1, 1, 0};
 static const uint32_t costs[ARCS] = {6, 1, 5, 4};
+static const uint16_t marks[ARCS] = {0, 1, 1, 1};
 static const uint16_t wrong_parents[ARCS] = {0, 2, 1, 0};
 static const uint32_t wrong_costs[ARCS] = {6, 1, 1000000001, 4};
+static const uint16_t wrong_marks[ARCS] = {0, 1, 65535, 1};
+static const uint16_t inner_marks[ARCS] = {1, 1, 1, 1};
+static const uint16_t no_marks[ARCS] = {0, 0, 0, 0};
 static int failures;
+
+/* The lists of T with the given marks. */
+#define T(marks) parents, ARCS, costs, ARCS, marks, ARCS
 
 #define EXPECT(holds) expect(holds, __LINE__)
 
@@ -80,11 +87,28 @@ static int are(const uint64_t *list, uint64_t a, uint64_t b, uint64_t c) {
 }
 
 static void trees(void) {
-    EXPECT(is_check(zilqodur_check_tree(parents, ARCS, costs, ARCS), ZILQODUR_NO_REFUSAL, 0));
-    EXPECT(is_check(zilqodur_check_tree(parents, 0, costs, ARCS), ZILQODUR_ARC_COUNT, 0));
-    EXPECT(is_check(zilqodur_check_tree(parents, ARCS, costs, ARCS - 1), ZILQODUR_TREE_LENGTHS, 0));
-    EXPECT(is_check(zilqodur_check_tree(wrong_parents, ARCS, costs, ARCS), ZILQODUR_PARENT, 2));
-    EXPECT(is_check(zilqodur_check_tree(parents, ARCS, wrong_costs, ARCS), ZILQODUR_COST, 3));
+    EXPECT(is_check(zilqodur_check_tree(T(marks)), ZILQODUR_NO_REFUSAL, 0));
+    EXPECT(is_check(zilqodur_check_tree(parents, 0, costs, ARCS, marks, ARCS), ZILQODUR_ARC_COUNT, 0));
+    EXPECT(is_check(zilqodur_check_tree(parents, ARCS, costs, ARCS - 1, marks, ARCS), ZILQODUR_TREE_LENGTHS, 0));
+    EXPECT(is_check(zilqodur_check_tree(parents, ARCS, costs, ARCS, marks, ARCS - 1), ZILQODUR_TREE_LENGTHS, 0));
+    EXPECT(is_check(zilqodur_check_tree(wrong_parents, ARCS, costs, ARCS, marks, ARCS), ZILQODUR_PARENT, 2));
+    EXPECT(is_check(zilqodur_check_tree(parents, ARCS, wrong_costs, ARCS, marks, ARCS), ZILQODUR_COST, 3));
+    EXPECT(is_check(zilqodur_check_tree(T(wrong_marks)), ZILQODUR_MARK, 3));
+    EXPECT(is_check(zilqodur_check_tree(T(inner_marks)), ZILQODUR_MARK_CHILD, 1));
+    EXPECT(is_check(zilqodur_check_tree(T(no_marks)), ZILQODUR_NO_MARK, 0));
+}
+
+/* Faults that stand in one tree: the first of them in the order of the refusals is told. */
+static void order(void) {
+    static const uint16_t last_child[ARCS] = {0, 1, 1, 3}, two[ARCS] = {0, 0, 2, 0};
+    static const uint32_t dear[ARCS] = {6, 1, 5, 1000000001};
+    EXPECT(is_check(zilqodur_check_tree(parents, ARCS, wrong_costs, ARCS, wrong_marks, ARCS), ZILQODUR_COST, 3));
+    EXPECT(is_check(zilqodur_check_tree(last_child, ARCS, wrong_costs, ARCS, marks, ARCS), ZILQODUR_COST, 3));
+    EXPECT(is_check(zilqodur_check_tree(last_child, ARCS, dear, ARCS, marks, ARCS), ZILQODUR_MARK_CHILD, 3));
+    EXPECT(is_check(zilqodur_check_tree(parents, ARCS, dear, ARCS, wrong_marks, ARCS), ZILQODUR_MARK, 3));
+    EXPECT(is_check(zilqodur_check_tree(parents, ARCS, dear, ARCS, no_marks, ARCS), ZILQODUR_COST, 4));
+    EXPECT(is_check(zilqodur_check_tree(T(two)), ZILQODUR_MARK, 3));
+    EXPECT(is_check(zilqodur_check_tree(parents, ARCS - 1, costs, ARCS - 1, no_marks, ARCS), ZILQODUR_TREE_LENGTHS, 0));
 }
 
 static void lists(void) {
@@ -98,52 +122,102 @@ static void lists(void) {
     EXPECT(is_check(zilqodur_check_proposal(MEMBERS, proposal, MEMBERS), ZILQODUR_LIST_RANGE, 2));
 }
 
+static void dead_ends(void) {
+    uint16_t out[ARCS] = {7, 7, 7, 7};
+    EXPECT(is_members(zilqodur_mark_dead_ends(parents, 0, costs, 0, out, ARCS), ZILQODUR_ARC_COUNT, 0, 0));
+    EXPECT(is_members(zilqodur_mark_dead_ends(parents, ARCS, costs, ARCS - 1, out, ARCS), ZILQODUR_TREE_LENGTHS, 0, 0));
+    EXPECT(is_members(zilqodur_mark_dead_ends(wrong_parents, ARCS, costs, ARCS, out, ARCS), ZILQODUR_PARENT, 2, 0));
+    EXPECT(is_members(zilqodur_mark_dead_ends(parents, ARCS, wrong_costs, ARCS, out, ARCS - 1), ZILQODUR_COST, 3, 0));
+    EXPECT(is_members(zilqodur_mark_dead_ends(parents, ARCS, costs, ARCS, out, ARCS - 1), ZILQODUR_OUTPUT_LENGTH, 0, 0));
+    EXPECT(out[0] == 7 && out[1] == 7 && out[2] == 7 && out[3] == 7);
+    EXPECT(is_members(zilqodur_mark_dead_ends(parents, ARCS, costs, ARCS, out, ARCS), ZILQODUR_NO_REFUSAL, 0, MEMBERS));
+    EXPECT(memcmp(out, marks, sizeof marks) == 0);
+}
+
 static void members(void) {
     uint16_t out[MEMBERS] = {7, 7, 7};
-    EXPECT(is_members(zilqodur_count_members(parents, ARCS, costs, ARCS), ZILQODUR_NO_REFUSAL, 0, MEMBERS));
-    EXPECT(is_members(zilqodur_count_members(wrong_parents, ARCS, costs, ARCS), ZILQODUR_PARENT, 2, 0));
-    EXPECT(is_members(zilqodur_list_members(parents, ARCS, costs, ARCS, out, 2), ZILQODUR_OUTPUT_LENGTH, 0, 0));
+    EXPECT(is_members(zilqodur_count_members(T(marks)), ZILQODUR_NO_REFUSAL, 0, MEMBERS));
+    EXPECT(is_members(zilqodur_count_members(wrong_parents, ARCS, costs, ARCS, marks, ARCS), ZILQODUR_PARENT, 2, 0));
+    EXPECT(is_members(zilqodur_list_members(T(marks), out, 2), ZILQODUR_OUTPUT_LENGTH, 0, 0));
+    EXPECT(is_members(zilqodur_list_members(T(wrong_marks), out, MEMBERS), ZILQODUR_MARK, 3, 0));
+    EXPECT(is_members(zilqodur_list_members(T(inner_marks), out, MEMBERS), ZILQODUR_MARK_CHILD, 1, 0));
+    EXPECT(is_members(zilqodur_list_members(T(no_marks), out, MEMBERS), ZILQODUR_NO_MARK, 0, 0));
     EXPECT(out[0] == 7 && out[1] == 7 && out[2] == 7);
-    EXPECT(is_members(zilqodur_list_members(parents, ARCS, costs, ARCS, out, MEMBERS), ZILQODUR_NO_REFUSAL, 0, MEMBERS));
+    EXPECT(is_members(zilqodur_list_members(T(marks), out, MEMBERS), ZILQODUR_NO_REFUSAL, 0, MEMBERS));
     EXPECT(out[0] == 2 && out[1] == 3 && out[2] == 4);
 }
 
 static void needs(void) {
     uint64_t out[ARCS] = {7, 7, 7, 7};
-    EXPECT(is_needs(zilqodur_list_needs(parents, ARCS, wrong_costs, ARCS, out, ARCS), ZILQODUR_COST, 3, 0, 0));
+    EXPECT(is_needs(zilqodur_list_needs(parents, ARCS, wrong_costs, ARCS, marks, ARCS, out, ARCS), ZILQODUR_COST, 3, 0, 0));
+    EXPECT(is_needs(zilqodur_list_needs(T(inner_marks), out, ARCS), ZILQODUR_MARK_CHILD, 1, 0, 0));
     EXPECT(are(out, 7, 7, 7) && out[3] == 7);
-    EXPECT(is_needs(zilqodur_list_needs(parents, ARCS, costs, ARCS, out, ARCS), ZILQODUR_NO_REFUSAL, 0, 16, MEMBERS));
+    EXPECT(is_needs(zilqodur_list_needs(T(marks), out, ARCS), ZILQODUR_NO_REFUSAL, 0, 16, MEMBERS));
     EXPECT(are(out, 12, 1, 5) && out[3] == 4);
 }
 
 static void groups(void) {
     uint64_t group[16] = {6};
-    EXPECT(is_group(zilqodur_group_cost(parents, ARCS, costs, ARCS, group), ZILQODUR_NO_REFUSAL, 0, 2, 15));
+    EXPECT(is_group(zilqodur_group_cost(T(marks), group), ZILQODUR_NO_REFUSAL, 0, 2, 15));
     group[0] = 8;
-    EXPECT(is_group(zilqodur_group_cost(parents, ARCS, costs, ARCS, group), ZILQODUR_GROUP_BIT, 3, 0, 0));
+    EXPECT(is_group(zilqodur_group_cost(T(marks), group), ZILQODUR_GROUP_BIT, 3, 0, 0));
+    EXPECT(is_group(zilqodur_group_cost(T(no_marks), group), ZILQODUR_NO_MARK, 0, 0, 0));
 }
 
 static void audits(void) {
     static const int64_t fair[MEMBERS] = {7, 5, 4}, unfair[MEMBERS] = {3, 4, 9}, low[MEMBERS] = {7, 5, -30000000000};
     static const int64_t outside[MEMBERS] = {7, 2000000000001, 4};
-    EXPECT(is_audit(zilqodur_audit(parents, ARCS, costs, ARCS, outside, MEMBERS), ZILQODUR_LIST_RANGE, 1,
-                    ZILQODUR_NO_VERDICT, 0, 0, 0, 0, 0));
-    EXPECT(is_audit(zilqodur_audit(parents, ARCS, costs, ARCS, fair, MEMBERS), 0, 0, ZILQODUR_PASS, 0, 0, 0, 0, 0));
-    EXPECT(is_audit(zilqodur_audit(parents, ARCS, costs, ARCS, low, MEMBERS), 0, 0, ZILQODUR_WRONG_TOTAL, -30000000004, 0, 0, 0, 0));
-    EXPECT(is_audit(zilqodur_audit(parents, ARCS, costs, ARCS, unfair, MEMBERS), 0, 0, ZILQODUR_OBJECTION, 0, 5, 1, 0, 4));
+    EXPECT(is_audit(zilqodur_audit(T(marks), outside, MEMBERS), ZILQODUR_LIST_RANGE, 1, ZILQODUR_NO_VERDICT, 0, 0, 0, 0, 0));
+    EXPECT(is_audit(zilqodur_audit(T(no_marks), outside, MEMBERS), ZILQODUR_NO_MARK, 0, ZILQODUR_NO_VERDICT, 0, 0, 0, 0, 0));
+    EXPECT(is_audit(zilqodur_audit(T(marks), fair, MEMBERS), 0, 0, ZILQODUR_PASS, 0, 0, 0, 0, 0));
+    EXPECT(is_audit(zilqodur_audit(T(marks), low, MEMBERS), 0, 0, ZILQODUR_WRONG_TOTAL, -30000000004, 0, 0, 0, 0));
+    EXPECT(is_audit(zilqodur_audit(T(marks), unfair, MEMBERS), 0, 0, ZILQODUR_OBJECTION, 0, 5, 1, 0, 4));
 }
 
-static void splits(void) {
+static void level_splits(void) {
     static const uint64_t caps[MEMBERS] = {3, 9, 4}, low[MEMBERS] = {3, 6, 100};
     uint64_t out[MEMBERS] = {7, 7, 7};
-    EXPECT(is_level(zilqodur_split_level(parents, ARCS, costs, ARCS, low, MEMBERS, out, MEMBERS), ZILQODUR_CAPS_SHORT, 1, 3, 0));
+    EXPECT(is_level(zilqodur_split_level(T(marks), low, MEMBERS, out, MEMBERS), ZILQODUR_CAPS_SHORT, 1, 3, 0));
+    EXPECT(is_level(zilqodur_split_level(T(wrong_marks), caps, MEMBERS, out, MEMBERS), ZILQODUR_MARK, 3, 0, 0));
+    EXPECT(is_level(zilqodur_split_level(T(no_marks), caps, MEMBERS, out, MEMBERS), ZILQODUR_NO_MARK, 0, 0, 0));
     EXPECT(are(out, 7, 7, 7));
-    EXPECT(is_level(zilqodur_split_level(parents, ARCS, costs, ARCS, caps, MEMBERS, out, MEMBERS), ZILQODUR_NO_REFUSAL, 0, 0, MEMBERS));
+    EXPECT(is_level(zilqodur_split_level(T(marks), caps, MEMBERS, out, MEMBERS), ZILQODUR_NO_REFUSAL, 0, 0, MEMBERS));
     EXPECT(are(out, 3, 9, 4));
-    EXPECT(is_members(zilqodur_split_by_arc(parents, ARCS, costs, ARCS, out, MEMBERS - 1), ZILQODUR_OUTPUT_LENGTH, 0, 0));
-    EXPECT(are(out, 3, 9, 4));
-    EXPECT(is_members(zilqodur_split_by_arc(parents, ARCS, costs, ARCS, out, MEMBERS), ZILQODUR_NO_REFUSAL, 0, MEMBERS));
+}
+
+static void by_arc_splits(void) {
+    uint64_t out[MEMBERS] = {7, 7, 7};
+    EXPECT(is_members(zilqodur_split_by_arc(T(marks), out, MEMBERS - 1), ZILQODUR_OUTPUT_LENGTH, 0, 0));
+    EXPECT(is_members(zilqodur_split_by_arc(T(inner_marks), out, MEMBERS), ZILQODUR_MARK_CHILD, 1, 0));
+    EXPECT(are(out, 7, 7, 7));
+    EXPECT(is_members(zilqodur_split_by_arc(T(marks), out, MEMBERS), ZILQODUR_NO_REFUSAL, 0, MEMBERS));
     EXPECT(are(out, 4, 8, 4));
+}
+
+/* T with nobody at vertex 3: two members, and nobody pays for arc 3. */
+static void spare(void) {
+    static const uint16_t some[ARCS] = {0, 1, 0, 1};
+    static const int64_t fair[2] = {7, 4}, whole[2] = {12, 4};
+    static const uint64_t caps[2] = {100, 100}, low[2] = {6, 100};
+    const uint64_t group[16] = {1}, beyond[16] = {4};
+    uint16_t vertices[2];
+    uint64_t out[ARCS];
+    EXPECT(is_members(zilqodur_count_members(T(some)), ZILQODUR_NO_REFUSAL, 0, 2));
+    EXPECT(is_members(zilqodur_list_members(T(some), vertices, 2), ZILQODUR_NO_REFUSAL, 0, 2));
+    EXPECT(vertices[0] == 2 && vertices[1] == 4);
+    EXPECT(is_needs(zilqodur_list_needs(T(some), out, ARCS), ZILQODUR_NO_REFUSAL, 0, 11, 2));
+    EXPECT(are(out, 7, 1, 0) && out[3] == 4);
+    EXPECT(is_group(zilqodur_group_cost(T(some), group), ZILQODUR_NO_REFUSAL, 0, 1, 7));
+    EXPECT(is_group(zilqodur_group_cost(T(some), beyond), ZILQODUR_GROUP_BIT, 2, 0, 0));
+    EXPECT(is_audit(zilqodur_audit(T(some), fair, 2), 0, 0, ZILQODUR_PASS, 0, 0, 0, 0, 0));
+    EXPECT(is_audit(zilqodur_audit(T(some), whole, 2), 0, 0, ZILQODUR_WRONG_TOTAL, 5, 0, 0, 0, 0));
+    EXPECT(is_level(zilqodur_split_level(T(some), low, 2, out, 2), ZILQODUR_CAPS_SHORT, 1, 1, 0));
+    EXPECT(are(out, 7, 1, 0));
+    EXPECT(is_level(zilqodur_split_level(T(some), caps, 2, out, 2), ZILQODUR_NO_REFUSAL, 0, 0, 2));
+    EXPECT(are(out, 7, 4, 0));
+    out[0] = out[1] = 0;
+    EXPECT(is_members(zilqodur_split_by_arc(T(some), out, 2), ZILQODUR_NO_REFUSAL, 0, 2));
+    EXPECT(are(out, 7, 4, 0) && out[3] == 4);
 }
 
 static void put(uint8_t *at, uint64_t number, int width) {
@@ -231,7 +305,7 @@ static void reports(void) {
 
 /* A star of arcs of the greatest cost: sums beyond 32 bits, and the last word of a group. */
 static void largest(void) {
-    static uint16_t star[ZILQODUR_MOST_ARCS + 1];
+    static uint16_t star[ZILQODUR_MOST_ARCS + 1], all[ZILQODUR_MOST_ARCS + 1];
     static uint32_t dear[ZILQODUR_MOST_ARCS + 1];
     static int64_t proposal[ZILQODUR_MOST_ARCS];
     static uint64_t out[ZILQODUR_MOST_ARCS];
@@ -246,21 +320,24 @@ static void largest(void) {
     proposal[0] -= 900000000000;
     proposal[m - 1] += 900000000000;
     EXPECT(m == 1023);
-    EXPECT(is_check(zilqodur_check_tree(star, m + 1, dear, m + 1), ZILQODUR_ARC_COUNT, 0));
-    EXPECT(is_needs(zilqodur_list_needs(star, m, dear, m, out, m), ZILQODUR_NO_REFUSAL, 0, 1023000000000, m));
-    EXPECT(is_group(zilqodur_group_cost(star, m, dear, m, group), ZILQODUR_NO_REFUSAL, 0, m, 1023000000000));
-    EXPECT(is_audit(zilqodur_audit(star, m, dear, m, proposal, m), 0, 0, ZILQODUR_OBJECTION, 0, 900000000000, 1, 15, UINT64_C(1) << 62));
+    EXPECT(is_members(zilqodur_mark_dead_ends(star, m, dear, m, all, m), ZILQODUR_NO_REFUSAL, 0, m));
+    EXPECT(all[0] == 1 && all[m - 1] == 1 && all[m] == 0);
+    EXPECT(is_check(zilqodur_check_tree(star, m + 1, dear, m + 1, all, m + 1), ZILQODUR_ARC_COUNT, 0));
+    EXPECT(is_needs(zilqodur_list_needs(star, m, dear, m, all, m, out, m), ZILQODUR_NO_REFUSAL, 0, 1023000000000, m));
+    EXPECT(is_group(zilqodur_group_cost(star, m, dear, m, all, m, group), ZILQODUR_NO_REFUSAL, 0, m, 1023000000000));
+    EXPECT(is_audit(zilqodur_audit(star, m, dear, m, all, m, proposal, m), 0, 0, ZILQODUR_OBJECTION, 0, 900000000000, 1, 15,
+                    UINT64_C(1) << 62));
 }
 
 /* Each number has a sentence of its own, and every other number the same one. */
 static void texts(void) {
     const char *other = zilqodur_refusal_text(UINT32_MAX);
     uint32_t a, b;
-    for (a = ZILQODUR_NO_REFUSAL; a <= ZILQODUR_JOB_MEMBERS; a++) {
+    for (a = ZILQODUR_NO_REFUSAL; a <= ZILQODUR_NO_MARK; a++) {
         EXPECT(strcmp(zilqodur_refusal_text(a), other) != 0);
         for (b = ZILQODUR_NO_REFUSAL; b < a; b++) EXPECT(strcmp(zilqodur_refusal_text(a), zilqodur_refusal_text(b)) != 0);
     }
-    EXPECT(strcmp(zilqodur_refusal_text(ZILQODUR_JOB_MEMBERS + 1), other) == 0);
+    EXPECT(strcmp(zilqodur_refusal_text(ZILQODUR_NO_MARK + 1), other) == 0);
     EXPECT(strcmp(zilqodur_refusal_text(ZILQODUR_PARENT), "a parent is not below its arc's number") == 0);
 }
 
@@ -268,12 +345,16 @@ int main(void) {
     texts();
     sizes();
     trees();
+    order();
     lists();
+    dead_ends();
     members();
     needs();
     groups();
     audits();
-    splits();
+    level_splits();
+    by_arc_splits();
+    spare();
     jobs();
     wrong_jobs();
     reports();

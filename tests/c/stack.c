@@ -23,7 +23,7 @@
 #define GUARD (1 << 20)
 #define STACK (1 << 17)
 
-static uint16_t parents[ARCS], vertices[ARCS];
+static uint16_t parents[ARCS], marks[ARCS], vertices[ARCS];
 static uint32_t costs[ARCS];
 static uint64_t caps[ARCS], out[ARCS], group[16];
 static int64_t proposal[ARCS];
@@ -31,7 +31,7 @@ static uint8_t job[NOTE + 24 * ARCS + 16], text[ZILQODUR_REPORT_ROOM];
 static size_t members, job_bytes;
 
 static uint32_t check_tree(void) {
-    return zilqodur_check_tree(parents, ARCS, costs, ARCS).refusal;
+    return zilqodur_check_tree(parents, ARCS, costs, ARCS, marks, ARCS).refusal;
 }
 
 static uint32_t check_caps(void) {
@@ -42,32 +42,36 @@ static uint32_t check_proposal(void) {
     return zilqodur_check_proposal(members, proposal, members).refusal;
 }
 
+static uint32_t mark_dead_ends(void) {
+    return zilqodur_mark_dead_ends(parents, ARCS, costs, ARCS, marks, ARCS).refusal;
+}
+
 static uint32_t count_members(void) {
-    return zilqodur_count_members(parents, ARCS, costs, ARCS).refusal;
+    return zilqodur_count_members(parents, ARCS, costs, ARCS, marks, ARCS).refusal;
 }
 
 static uint32_t list_members(void) {
-    return zilqodur_list_members(parents, ARCS, costs, ARCS, vertices, members).refusal;
+    return zilqodur_list_members(parents, ARCS, costs, ARCS, marks, ARCS, vertices, members).refusal;
 }
 
 static uint32_t list_needs(void) {
-    return zilqodur_list_needs(parents, ARCS, costs, ARCS, out, ARCS).refusal;
+    return zilqodur_list_needs(parents, ARCS, costs, ARCS, marks, ARCS, out, ARCS).refusal;
 }
 
 static uint32_t group_cost(void) {
-    return zilqodur_group_cost(parents, ARCS, costs, ARCS, group).refusal;
+    return zilqodur_group_cost(parents, ARCS, costs, ARCS, marks, ARCS, group).refusal;
 }
 
 static uint32_t audit(void) {
-    return zilqodur_audit(parents, ARCS, costs, ARCS, proposal, members).refusal;
+    return zilqodur_audit(parents, ARCS, costs, ARCS, marks, ARCS, proposal, members).refusal;
 }
 
 static uint32_t split_level(void) {
-    return zilqodur_split_level(parents, ARCS, costs, ARCS, caps, members, out, members).refusal;
+    return zilqodur_split_level(parents, ARCS, costs, ARCS, marks, ARCS, caps, members, out, members).refusal;
 }
 
 static uint32_t split_by_arc(void) {
-    return zilqodur_split_by_arc(parents, ARCS, costs, ARCS, out, members).refusal;
+    return zilqodur_split_by_arc(parents, ARCS, costs, ARCS, marks, ARCS, out, members).refusal;
 }
 
 static uint32_t read_job(void) {
@@ -87,6 +91,7 @@ static const struct {
     {"zilqodur_check_tree", check_tree, OTHER},
     {"zilqodur_check_caps", check_caps, OTHER},
     {"zilqodur_check_proposal", check_proposal, OTHER},
+    {"zilqodur_mark_dead_ends", mark_dead_ends, OTHER},
     {"zilqodur_count_members", count_members, OTHER},
     {"zilqodur_list_members", list_members, OTHER},
     {"zilqodur_list_needs", list_needs, OTHER},
@@ -183,7 +188,7 @@ static void write_lists(void) {
         costs[i] = 1000000000;
         caps[i] = 2000000000000;
     }
-    members = zilqodur_count_members(parents, ARCS, costs, ARCS).members;
+    members = zilqodur_mark_dead_ends(parents, ARCS, costs, ARCS, marks, ARCS).members;
     proposal[0] = INT64_C(1000000000) * ARCS;
     memset(group, 0, sizeof group);
     for (i = 0; i < members; i++) {

@@ -12,24 +12,34 @@ mod groups;
 mod heap;
 
 use crate::ffi::ZilqodurLevel;
-use crate::reference::{check_caps, check_output, check_tree, Answer, Refusal};
+use crate::reference::{check_caps, check_output, Answer, Refusal};
 use crate::same;
 use groups::Groups;
 
-fn checked(parents: &[u16], costs: &[u32], caps: &[u64], out: &mut [u64]) -> Answer<usize> {
-    check_tree(parents, costs)?;
-    let members = same::count_members(parents);
+fn checked(
+    parents: &[u16],
+    costs: &[u32],
+    marks: &[u16],
+    caps: &[u64],
+    out: &mut [u64],
+) -> Answer<usize> {
+    same::check_tree(parents, costs, marks)?;
+    let members = same::count_members(marks);
     check_caps(members, caps)?;
     check_output(out.len(), members)?;
     let mut groups = Groups::new(caps);
-    // By vertex: the heap of its users' groups, and whether it has a child.
+    // By vertex: the heap of its users' groups, and whether there is a user.
     let mut heaps = [0; same::VERTICES];
-    let mut inner = [false; same::VERTICES];
+    let mut used = [false; same::VERTICES];
     let mut j = members;
     for k in (1..=parents.len()).rev() {
-        if !inner[k] {
+        if marks[k - 1] == 1 {
             j -= 1;
             heaps[k] = groups.alone(j);
+            used[k] = true;
+        }
+        if !used[k] {
+            continue;
         }
         let (heap, left) = groups.pour(heaps[k], u64::from(costs[k - 1]));
         if left > 0 {
@@ -40,7 +50,7 @@ fn checked(parents: &[u16], costs: &[u32], caps: &[u64], out: &mut [u64]) -> Ans
             });
         }
         let parent = usize::from(parents[k - 1]);
-        inner[parent] = true;
+        used[parent] = true;
         // No arc enters the source.
         if parent > 0 {
             heaps[parent] = groups.join(heaps[parent], heap);
@@ -51,6 +61,12 @@ fn checked(parents: &[u16], costs: &[u32], caps: &[u64], out: &mut [u64]) -> Ans
 }
 
 #[inline(never)]
-pub fn split_level(parents: &[u16], costs: &[u32], caps: &[u64], out: &mut [u64]) -> ZilqodurLevel {
-    same::level_answer(checked(parents, costs, caps, out))
+pub fn split_level(
+    parents: &[u16],
+    costs: &[u32],
+    marks: &[u16],
+    caps: &[u64],
+    out: &mut [u64],
+) -> ZilqodurLevel {
+    same::level_answer(checked(parents, costs, marks, caps, out))
 }

@@ -1,9 +1,9 @@
 //! The audit: the total, then each arc's excess from below and the active
 //! members from above.
 
-use super::{count_members, VERTICES};
+use super::{check_tree, count_members, write_counted, VERTICES};
 use crate::ffi::ZilqodurAudit;
-use crate::reference::{check_proposal, check_tree, Answer};
+use crate::reference::{check_proposal, Answer, ARCS};
 
 /// The sums of the shares' positive and negative parts.
 fn parts_of(proposal: &[i64]) -> (u64, u64) {
@@ -16,68 +16,72 @@ fn parts_of(proposal: &[i64]) -> (u64, u64) {
 }
 
 /// By vertex: what the positive shares of the arc's users exceed its cost by,
-/// after the arcs below it, and whether the vertex has a child.
+/// after the arcs below it.
 struct Excesses {
     total: u64,
     of: [u64; VERTICES],
-    inner: [bool; VERTICES],
 }
 
-fn find_excesses(parents: &[u16], costs: &[u32], proposal: &[i64]) -> Excesses {
+fn find_excesses(parents: &[u16], costs: &[u32], marks: &[u16], proposal: &[i64]) -> Excesses {
     let mut found = Excesses {
         total: 0,
         of: [0; VERTICES],
-        inner: [false; VERTICES],
     };
     let mut below = [0; VERTICES];
     let mut j = proposal.len();
     for k in (1..=parents.len()).rev() {
         let mut amount = below[k];
-        if !found.inner[k] {
+        if marks[k - 1] == 1 {
             j -= 1;
             amount += proposal[j].max(0) as u64;
         }
         found.of[k] = amount.saturating_sub(u64::from(costs[k - 1]));
-        let parent = usize::from(parents[k - 1]);
-        found.inner[parent] = true;
-        below[parent] += found.of[k];
+        below[usize::from(parents[k - 1])] += found.of[k];
     }
     found.total = below[0];
     found
 }
 
 /// The members with an excess at their own arc and at every arc above it.
-fn mark(parents: &[u16], found: &Excesses) -> [u64; 16] {
+fn name_group(parents: &[u16], marks: &[u16], found: &Excesses) -> [u64; 16] {
     let mut active = [false; VERTICES];
     active[0] = true;
     let mut words = [0; 16];
     let mut j = 0;
     for k in 1..=parents.len() {
         active[k] = found.of[k] > 0 && active[usize::from(parents[k - 1])];
-        if active[k] && !found.inner[k] {
+        if active[k] && marks[k - 1] == 1 {
             words[j / 64] |= 1 << (j % 64);
         }
-        j += usize::from(!found.inner[k]);
+        j += usize::from(marks[k - 1] == 1);
     }
     words
 }
 
-fn verdict(parents: &[u16], costs: &[u32], proposal: &[i64]) -> Answer<ZilqodurAudit> {
-    check_tree(parents, costs)?;
-    check_proposal(count_members(parents), proposal)?;
+fn verdict(
+    parents: &[u16],
+    costs: &[u32],
+    marks: &[u16],
+    proposal: &[i64],
+) -> Answer<ZilqodurAudit> {
+    check_tree(parents, costs, marks)?;
+    let mut counted = [0; ARCS];
+    let counted = &mut counted[..parents.len()];
+    write_counted(parents, costs, marks, counted);
+    check_proposal(count_members(marks), proposal)?;
     let mut answer = ZilqodurAudit {
         verdict: 1,
         ..Default::default()
     };
     let (proposed, negative) = parts_of(proposal);
-    let owed = negative + costs.iter().map(|&cost| u64::from(cost)).sum::<u64>();
+    let owed = negative + counted.iter().map(|&cost| u64::from(cost)).sum::<u64>();
     if proposed != owed {
         answer.verdict = 2;
         answer.difference = proposed as i64 - owed as i64;
         return Ok(answer);
     }
-    let found = find_excesses(parents, costs, proposal);
-    let group = mark(parents, &found);
+    let found = find_excesses(parents, counted, marks, proposal);
+    let group = name_group(parents, marks, &found);
     if found.total > 0 {
         answer.verdict = 3;
         answer.amount = found.total;
@@ -88,8 +92,8 @@ fn verdict(parents: &[u16], costs: &[u32], proposal: &[i64]) -> Answer<ZilqodurA
 }
 
 #[inline(never)]
-pub fn audit(parents: &[u16], costs: &[u32], proposal: &[i64]) -> ZilqodurAudit {
-    verdict(parents, costs, proposal).unwrap_or_else(|r| ZilqodurAudit {
+pub fn audit(parents: &[u16], costs: &[u32], marks: &[u16], proposal: &[i64]) -> ZilqodurAudit {
+    verdict(parents, costs, marks, proposal).unwrap_or_else(|r| ZilqodurAudit {
         refusal: r.number,
         place: r.place,
         ..Default::default()

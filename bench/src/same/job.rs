@@ -1,10 +1,10 @@
 //! The job reader: the checks on local lists, then the rows again into the
 //! lent lists.
 
-use super::count_members;
+use super::dead_ends::write_dead_ends;
 use crate::ffi::ZilqodurJob;
 use crate::job::{layout, number, trailer, Layout};
-use crate::reference::{check_caps, check_proposal, check_tree, refuse, Answer, ARCS};
+use crate::reference::{check_caps, check_proposal, refuse, Answer, ARCS};
 
 /// The most rows that a job has room for.
 const ARC_ROWS: usize = 3_100;
@@ -43,9 +43,10 @@ fn read_proposals(bytes: &[u8], at: &Layout, proposals: &mut [i64]) {
 /// 1, 3, 4, 15, then 7.
 fn check_values(bytes: &[u8], at: &Layout) -> Answer<()> {
     let (mut parents, mut costs) = ([0; ARC_ROWS], [0; ARC_ROWS]);
+    let mut marks = [0; ARC_ROWS];
     read_arcs(bytes, at, &mut parents, &mut costs);
-    check_tree(&parents[..at.arcs], &costs[..at.arcs])?;
-    if count_members(&parents[..at.arcs]) != at.members {
+    let (parents, costs) = (&parents[..at.arcs], &costs[..at.arcs]);
+    if write_dead_ends(parents, costs, &mut marks[..at.arcs])? != at.members {
         return refuse(15, 0);
     }
     let mut caps = [0; MEMBER_ROWS];

@@ -1,13 +1,14 @@
 //! The level split: the users of every arc side by side in one list, and at
 //! each arc one bisection for the key up to which its cost raises them. A key
-//! is level * 1024 + mark: users below the mark go to level + 1, the others
+//! is level * 1024 + bound: users below the bound go to level + 1, the others
 //! to the level.
 
 use super::{
-    count_members, write_cap_sums, write_members, write_needs, write_user_counts, VERTICES,
+    check_tree, count_members, write_cap_sums, write_counted, write_members, write_needs,
+    write_user_counts, VERTICES,
 };
 use crate::ffi::ZilqodurLevel;
-use crate::reference::{check_caps, check_output, check_tree, Answer, Refusal, AMOUNT, ARCS};
+use crate::reference::{check_caps, check_output, Answer, Refusal, AMOUNT, ARCS};
 
 /// 9: the first arc from the last down whose users' caps are short of its need.
 fn check_short(parents: &[u16], costs: &[u32], vertices: &[u16], caps: &[u64]) -> Answer<()> {
@@ -85,16 +86,24 @@ fn split(parents: &[u16], costs: &[u32], vertices: &[u16], caps: &[u64], out: &m
     }
 }
 
-fn checked(parents: &[u16], costs: &[u32], caps: &[u64], out: &mut [u64]) -> Answer<usize> {
-    check_tree(parents, costs)?;
-    let members = count_members(parents);
+fn checked(
+    parents: &[u16],
+    costs: &[u32],
+    marks: &[u16],
+    caps: &[u64],
+    out: &mut [u64],
+) -> Answer<usize> {
+    check_tree(parents, costs, marks)?;
+    let (mut vertices, mut counted) = ([0; ARCS], [0; ARCS]);
+    let counted = &mut counted[..parents.len()];
+    write_counted(parents, costs, marks, counted);
+    let members = count_members(marks);
     check_caps(members, caps)?;
     check_output(out.len(), members)?;
-    let mut vertices = [0; ARCS];
-    write_members(parents, &mut vertices[..members]);
-    let vertices = &vertices[..members];
-    check_short(parents, costs, vertices, caps)?;
-    split(parents, costs, vertices, caps, out);
+    let vertices = &mut vertices[..members];
+    write_members(marks, vertices);
+    check_short(parents, counted, vertices, caps)?;
+    split(parents, counted, vertices, caps, out);
     Ok(members)
 }
 
@@ -114,6 +123,12 @@ pub fn answer(found: Answer<usize>) -> ZilqodurLevel {
 }
 
 #[inline(never)]
-pub fn split_level(parents: &[u16], costs: &[u32], caps: &[u64], out: &mut [u64]) -> ZilqodurLevel {
-    answer(checked(parents, costs, caps, out))
+pub fn split_level(
+    parents: &[u16],
+    costs: &[u32],
+    marks: &[u16],
+    caps: &[u64],
+    out: &mut [u64],
+) -> ZilqodurLevel {
+    answer(checked(parents, costs, marks, caps, out))
 }

@@ -1,44 +1,66 @@
 //! The engine's algorithms in Rust, loop for loop over the same working arrays,
-//! cleared alike. The checks on lists are the reference's, which have the same
-//! loops.
+//! cleared alike. The checks on all lists but a tree's are the reference's,
+//! which have the same loops.
 
 mod audit;
 mod by_arc;
+mod check;
+mod dead_ends;
 mod job;
 mod level;
 mod needs;
 
 pub use audit::audit;
 pub use by_arc::split_by_arc;
+pub use check::check_tree;
+pub use dead_ends::mark_dead_ends;
 pub use job::read_job;
 pub use level::{answer as level_answer, split_level};
 pub use needs::list_needs;
 
-use crate::reference::ARCS;
+use crate::ffi::ZilqodurMembers;
+use crate::reference::{Answer, ARCS};
 
 /// Room for one entry a vertex.
 pub const VERTICES: usize = ARCS + 1;
 
-pub fn count_members(parents: &[u16]) -> usize {
-    let mut has_child = [false; VERTICES];
-    let mut members = 0;
-    for k in (1..=parents.len()).rev() {
-        members += usize::from(!has_child[k]);
-        has_child[usize::from(parents[k - 1])] = true;
+fn answer(found: Answer<usize>) -> ZilqodurMembers {
+    match found {
+        Ok(members) => ZilqodurMembers {
+            members,
+            ..Default::default()
+        },
+        Err(r) => ZilqodurMembers {
+            refusal: r.number,
+            place: r.place,
+            members: 0,
+        },
     }
-    members
+}
+
+pub fn count_members(marks: &[u16]) -> usize {
+    marks.iter().map(|&mark| usize::from(mark == 1)).sum()
 }
 
 /// Writes the members' vertices in rising order.
-pub fn write_members(parents: &[u16], out: &mut [u16]) {
-    let mut has_child = [false; VERTICES];
-    let mut j = out.len();
-    for k in (1..=parents.len()).rev() {
-        if !has_child[k] {
-            j -= 1;
-            out[j] = k as u16;
+fn write_members(marks: &[u16], out: &mut [u16]) {
+    let mut j = 0;
+    for (i, &mark) in marks.iter().enumerate() {
+        if mark == 1 {
+            out[j] = (i + 1) as u16;
+            j += 1;
         }
-        has_child[usize::from(parents[k - 1])] = true;
+    }
+}
+
+/// Writes each arc's cost where it has a user, else 0.
+fn write_counted(parents: &[u16], costs: &[u32], marks: &[u16], out: &mut [u32]) {
+    let mut used = [false; VERTICES];
+    for k in (1..=parents.len()).rev() {
+        let here = marks[k - 1] == 1 || used[k];
+        out[k - 1] = if here { costs[k - 1] } else { 0 };
+        let parent = usize::from(parents[k - 1]);
+        used[parent] = used[parent] || here;
     }
 }
 

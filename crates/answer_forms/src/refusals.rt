@@ -3,7 +3,7 @@
 // The parent list has no entry, or more than 1,023.
 pub const ARC_COUNT: u32 = 1;
 
-// The parent list and the cost list differ in length.
+// The parent list differs in length from the cost list or the mark list.
 pub const TREE_LENGTHS: u32 = 2;
 
 // A parent is not below its arc's number.
@@ -44,3 +44,12 @@ pub const JOB_FILLER: u32 = 14;
 
 // The job's number of members is not its tree's.
 pub const JOB_MEMBERS: u32 = 15;
+
+// A mark is neither 0 nor 1.
+pub const MARK: u32 = 16;
+
+// A marked vertex has a child.
+pub const MARK_CHILD: u32 = 17;
+
+// No vertex is marked.
+pub const NO_MARK: u32 = 18;

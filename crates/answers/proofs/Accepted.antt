@@ -1,102 +1,172 @@
 -- What it means that a tree, and the length of an output list, is accepted.
-use Prim.Native.Nat.{ℕ, zero, suc, _+_, _≤_, _<_}
-use mathlib.Core.Path.{_≡_}
-use mathlib.Core.Bool.{Bool, false, _||_, not}
-use mathlib.Core.List.{List, [], _∷_}
+use Prim.Native.Nat.{ℕ, zero, suc, _≤_, _<_}
+use mathlib.Core.Path.{_≡_, refl, ap, _∙_}
+use mathlib.Core.Bool.{true, false, _||_, _&&_, not}
+use mathlib.Core.List.{List}
+use native.Mathlib.Decide.{decLt}
 use native.Mathlib.Omega.{arith}
-use borrow.Author.Tests.{eqb-true, ltb-false, leb-false, not-false}
-use lib.ListN.{length, getD}
+use borrow.Author.Tests.{eqb-true, eqb-false, ltb-false, leb-false, not-false}
+use lib.ListN.{length, getD, List·getD-eq-default}
 use lib.Dec.{eqb, ltb, leb}
-use Rattle.game.specs.Tree.{Tree, ofArc}
-use Rattle.basics.proofs.Bools.{neither-second}
+use Rattle.basics.specs.Sum.{some}
+use Rattle.game.specs.Tree.{Tree, ofArc, hasChild, marked}
+use Rattle.basics.proofs.Bools.{clash, neither-first, neither-second}
+use Rattle.basics.proofs.Sums.{In, in-cases}
 use Rattle.answer_forms.specs.Answer.{Check, accepted, fault, _then_}
 use Rattle.answer_forms.proofs.Composed.{first-accepted, second-accepted, no-fault}
 use Rattle.limits.specs.Limits.{mostArcs, mostCost}
-use Rattle.answers.specs.Checks.{arcCheck, arcsCheck, treeCheck, lengthCheck}
+use Rattle.answers.specs.Checks.{unlike, arcCountCheck, arcCheck, markCheck, arcByArc, treeCheck, lengthCheck}
 
--- arcs from k on: each parent is below its arc, each cost within its limit
-pub record Arcs (k : ℕ) (parents costs : List ℕ) : Type 0 where
-  pub rising : (i : ℕ) → getD parents i 0 < k + i
-  pub limited : (i : ℕ) → getD costs i 0 ≤ mostCost
+-- a check that finds nothing arc by arc finds nothing at each arc
+pub each-accepted : (check : ℕ → Check) (m : ℕ) → arcByArc check m ≡ accepted → (k : ℕ) → In m k → check k ≡ accepted
+unfolding arcByArc
+each-accepted check zero e k i = absurd (omega arith)
+each-accepted check (suc m) e k i =
+    in-cases m k i (each-accepted check m (first-accepted (arcByArc check m) (check (suc m)) e) k)
+    (λ d. ap check d ∙ second-accepted (arcByArc check m) (check (suc m)) e)
 
-arcs-accepted : (k : ℕ) (parents costs : List ℕ) → 0 < k → length parents ≡ length costs
-    → arcsCheck k parents costs ≡ accepted → Arcs k parents costs
-unfolding arcsCheck
-arcs-accepted k [] [] pos same e = record { rising = λ i. omega arith; limited = λ i. omega arith }
-arcs-accepted k [] (c ∷ costs) pos same e = absurd (omega arith)
-arcs-accepted k (p ∷ parents) [] pos same e = absurd (omega arith)
-arcs-accepted k (p ∷ parents) (c ∷ costs) pos same e =
-    let rest = arcs-accepted (k + 1) parents costs (omega arith) (omega arith)
-    (second-accepted (arcCheck k p c) (arcsCheck (k + 1) parents costs) e) in
-    record { rising = rising (rest .rising); limited = limited (rest .limited) }
-  where
-    here : arcCheck k p c ≡ accepted
-    here = first-accepted (arcCheck k p c) (arcsCheck (k + 1) parents costs) e
+-- the number of arcs
+pub count-accepted : (ps : List ℕ) → arcCountCheck ps ≡ accepted → (0 < length ps) × (length ps ≤ mostArcs)
+count-accepted ps e =
+    let none = no-fault (eqb (length ps) 0 || ltb mostArcs (length ps)) 1 0 e in
+    let some = eqb-false (length ps) 0 (neither-first (eqb (length ps) 0) (ltb mostArcs (length ps)) none) in (
+      omega arith,
+      ltb-false mostArcs (length ps) (neither-second (eqb (length ps) 0) (ltb mostArcs (length ps)) none),
+    )
 
-    rising : ((i : ℕ) → getD parents i 0 < k + 1 + i) → (i : ℕ) → getD (p ∷ parents) i 0 < k + i
-    rising rest zero =
-        omega (
+-- two lists that are not unlike
+pub alike : (a b : List ℕ) → unlike a b ≡ false → length a ≡ length b
+alike a b e = eqb-true (length a) (length b) (not-false (eqb (length a) (length b)) e)
+
+-- each parent is below its arc, each cost within its limit
+pub record Arcs (parents costs : List ℕ) : Type 0 where
+  pub rising : (v : ℕ) → ofArc parents (suc v) ≤ v
+  pub limited : (k : ℕ) → ofArc costs k ≤ mostCost
+
+module _ (ps cs : List ℕ) (same : length ps ≡ length cs)
+    (each : (k : ℕ) → In (length ps) k → arcCheck ps cs k ≡ accepted) where
+  parent-fault : ℕ → Check
+  parent-fault k = fault (leb k (ofArc ps k)) 3 k
+
+  cost-fault : ℕ → Check
+  cost-fault k = fault (ltb mostCost (ofArc cs k)) 4 k
+
+  rises : (v : ℕ) → ofArc ps (suc v) ≤ v
+  unfolding parent-fault cost-fault
+  rises v =
+      elim (decLt v (length ps)) [
+        | yes h ↦ omega (
           arith,
-          leb-false k p
-              (no-fault (leb k p) 3 k (first-accepted (fault (leb k p) 3 k) (fault (ltb mostCost c) 4 k) here)),
+          leb-false (suc v) (getD ps v 0)
+              (no-fault (leb (suc v) (getD ps v 0)) 3 (suc v)
+              (first-accepted (parent-fault (suc v)) (cost-fault (suc v)) (each (suc v) (omega arith)))),
         )
-    rising rest (suc i) = omega (arith, rest i)
+        | no h ↦ omega (arith, List·getD-eq-default ps 0 {n = v} (omega arith))
+      ]
 
-    limited : ((i : ℕ) → getD costs i 0 ≤ mostCost) → (i : ℕ) → getD (c ∷ costs) i 0 ≤ mostCost
-    limited rest zero =
-        ltb-false mostCost c
-        (no-fault (ltb mostCost c) 4 k (second-accepted (fault (leb k p) 3 k) (fault (ltb mostCost c) 4 k) here))
-    limited rest (suc i) = rest i
+  stays : (k : ℕ) → ofArc cs k ≤ mostCost
+  unfolding parent-fault cost-fault
+  stays zero = omega arith
+  stays (suc v) =
+      elim (decLt v (length ps)) [
+        | yes h ↦
+            ltb-false mostCost (getD cs v 0)
+            (no-fault (ltb mostCost (getD cs v 0)) 4 (suc v)
+            (second-accepted (parent-fault (suc v)) (cost-fault (suc v)) (each (suc v) (omega arith))))
+        | no h ↦ omega (arith, List·getD-eq-default cs 0 {n = v} (omega arith))
+      ]
+
+  pub arcs-accepted : Arcs ps cs
+  arcs-accepted = record { rising = rises; limited = stays }
 
 -- a tree on which no check finds fault
 pub record Accepted (t : Tree) : Type 0 where
   pub few : length (t .parents) ≤ mostArcs
   pub same : length (t .parents) ≡ length (t .costs)
+  pub one-a-vertex : length (t .marks) ≡ length (t .parents)
   pub rooted : (v : ℕ) → ofArc (t .parents) (suc v) ≤ v
   pub limited : (k : ℕ) → ofArc (t .costs) k ≤ mostCost
+  pub ends : (v : ℕ) → marked (t .marks) v ≡ true → hasChild (t .parents) v ≡ false
+  pub someone : some (length (t .parents)) (marked (t .marks)) ≡ true
 
-pub tree-accepted : (t : Tree) → treeCheck t ≡ accepted → Accepted t
-unfolding treeCheck
-tree-accepted t e =
-    record {
-      few = ltb-false mostArcs (length (t .parents)) (neither-second size-zero size-many sizes);
-      same = same;
-      rooted = λ v. omega (arith, arcs .rising v);
-      limited = limited (arcs .limited);
-    }
-  where
-    size-zero : Bool
-    size-zero = eqb (length (t .parents)) 0
+module _ (t : Tree) (e : treeCheck t ≡ accepted) where
+  abbrev ps : List ℕ
+  ps = t .parents
 
-    size-many : Bool
-    size-many = ltb mostArcs (length (t .parents))
+  abbrev ms : List ℕ
+  ms = t .marks
 
-    unlike : Bool
-    unlike = not (eqb (length (t .parents)) (length (t .costs)))
+  abbrev at-arc : ℕ → Check
+  at-arc k = arcCheck ps (t .costs) k then markCheck ps ms k
 
-    after-size : Check
-    after-size = fault unlike 2 0 then arcsCheck 1 (t .parents) (t .costs)
+  abbrev nobody : Check
+  nobody = fault (not (some (length ps) (marked ms))) 18 0
 
-    sizes : (size-zero || size-many) ≡ false
-    sizes = no-fault (size-zero || size-many) 1 0 (first-accepted (fault (size-zero || size-many) 1 0) after-size e)
+  abbrev after-lengths : Check
+  after-lengths = arcByArc at-arc (length ps) then nobody
 
-    after : after-size ≡ accepted
-    after = second-accepted (fault (size-zero || size-many) 1 0) after-size e
+  abbrev lengths : Check
+  lengths = fault (unlike ps (t .costs) || unlike ps ms) 2 0
 
-    same : length (t .parents) ≡ length (t .costs)
-    same =
-        eqb-true (length (t .parents)) (length (t .costs))
-        (not-false (eqb (length (t .parents)) (length (t .costs)))
-        (no-fault unlike 2 0 (first-accepted (fault unlike 2 0) (arcsCheck 1 (t .parents) (t .costs)) after)))
+  after-count : (lengths then after-lengths) ≡ accepted
+  unfolding treeCheck
+  after-count = second-accepted (arcCountCheck ps) (lengths then after-lengths) e
 
-    arcs : Arcs 1 (t .parents) (t .costs)
-    arcs =
-        arcs-accepted 1 (t .parents) (t .costs) (omega arith) same
-        (second-accepted (fault unlike 2 0) (arcsCheck 1 (t .parents) (t .costs)) after)
+  counted : (0 < length ps) × (length ps ≤ mostArcs)
+  unfolding treeCheck
+  counted = count-accepted ps (first-accepted (arcCountCheck ps) (lengths then after-lengths) e)
 
-    limited : ((i : ℕ) → getD (t .costs) i 0 ≤ mostCost) → (k : ℕ) → ofArc (t .costs) k ≤ mostCost
-    limited h zero = omega arith
-    limited h (suc i) = h i
+  not-unlike : (unlike ps (t .costs) || unlike ps ms) ≡ false
+  not-unlike =
+      no-fault (unlike ps (t .costs) || unlike ps ms) 2 0 (first-accepted lengths after-lengths after-count)
+
+  same-costs : length ps ≡ length (t .costs)
+  same-costs = alike ps (t .costs) (neither-first (unlike ps (t .costs)) (unlike ps ms) not-unlike)
+
+  same-marks : length ps ≡ length ms
+  same-marks = alike ps ms (neither-second (unlike ps (t .costs)) (unlike ps ms) not-unlike)
+
+  arcs-then : after-lengths ≡ accepted
+  arcs-then = second-accepted lengths after-lengths after-count
+
+  each : (k : ℕ) → In (length ps) k → at-arc k ≡ accepted
+  each = each-accepted at-arc (length ps) (first-accepted (arcByArc at-arc (length ps)) nobody arcs-then)
+
+  arcs : Arcs ps (t .costs)
+  arcs =
+      arcs-accepted ps (t .costs) same-costs
+      (λ k i. first-accepted (arcCheck ps (t .costs) k) (markCheck ps ms k) (each k i))
+
+  -- 17 at a marked vertex
+  marked-ends : (v : ℕ) → marked ms v ≡ true → hasChild ps v ≡ false
+  marked-ends zero m = absurd (clash m refl)
+  marked-ends (suc i) m =
+      elim (decLt i (length ps)) [
+        | yes h ↦
+            let here = second-accepted (arcCheck ps (t .costs) (suc i)) (markCheck ps ms (suc i))
+            (each (suc i) (omega arith)) in
+            let none = no-fault (marked ms (suc i) && hasChild ps (suc i)) 17 (suc i)
+            (second-accepted (fault (ltb 1 (ofArc ms (suc i))) 16 (suc i))
+            (fault (marked ms (suc i) && hasChild ps (suc i)) 17 (suc i)) here) in
+            rw m at none
+        | no h ↦ absurd
+            (clash m (ap (λ (x : ℕ). eqb x 1) (List·getD-eq-default ms 0 {n = i} (omega (arith, same-marks)))))
+      ]
+
+  pub tree-accepted : Accepted t
+  tree-accepted =
+      record {
+        few = counted .1;
+        same = same-costs;
+        one-a-vertex = omega (arith, same-marks);
+        rooted = arcs .rising;
+        limited = arcs .limited;
+        ends = marked-ends;
+        someone =
+            not-false (some (length ps) (marked ms))
+            (no-fault (not (some (length ps) (marked ms))) 18 0
+            (second-accepted (arcByArc at-arc (length ps)) nobody arcs-then));
+      }
 
 -- an output list that is accepted has the length of what is written
 pub length-accepted : (wanted found : ℕ) → lengthCheck wanted found ≡ accepted → found ≡ wanted

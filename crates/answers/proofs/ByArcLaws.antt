@@ -1,18 +1,21 @@
 -- Demand 2 of the by-arc split.
 use Prim.Native.Nat.{ℕ, _≤_, _<_}
 use mathlib.Core.Path.{_≡_, ap, _∙_}
+use mathlib.Core.Bool.{true, false}
+use mathlib.Core.Logic.{inl, inr, ⊎-elim}
 use mathlib.Core.List.{List, map}
 use native.Mathlib.Omega.{arith}
 use borrow.Author.Tests.{le-ltb}
 use lib.ListN.{length, getD, List·getD-map, length-map}
 use lib.IntN.{pos}
-use Rattle.game.specs.Network.{memberCount, wholeCost}
+use Rattle.game.specs.Network.{memberCount, wholeCost, used, everyone}
 use Rattle.game.specs.Tree.{Tree, network}
 use Rattle.game.specs.Core.{Core}
-use Rattle.game.specs.ByArc.{userCount, gift, byArc}
+use Rattle.game.specs.ByArc.{gift, byArc}
 use Rattle.game.specs.Shapley.{Even}
+use Rattle.basics.proofs.Bools.{both}
 use Rattle.basics.proofs.Sums.{In, sum-mono, term₀-le}
-use Rattle.game.proofs.DeadEnds.{dead-ends, every-arc-used}
+use Rattle.game.proofs.Counted.{unused-free}
 use Rattle.game.proofs.Core.{need-to-core}
 use Rattle.game.proofs.Shapley.{shapley-by-arcs, whole-part}
 use Rattle.game.proofs.Even.{even-near}
@@ -33,11 +36,6 @@ use Rattle.answers.proofs.InRange.{in-range}
 use Rattle.answers.proofs.CoreLaws.{members-end}
 use Rattle.answers.proofs.AuditLaws.{audit-laws}
 
--- every arc of an accepted tree has a user
-pub some-users : (t : Tree) → Accepted t → (k : ℕ) → In (network t .arcs) k → 0 < userCount (network t) k
-some-users t acc k i =
-    used-count (network t) k (every-arc-used (network t) (acc .rooted) (dead-ends (t .parents) (t .costs)) k i)
-
 module _ (t : Tree) (out : List ℕ) (ok : membersCheck t out ≡ accepted) where
   tree-ok : treeCheck t ≡ accepted
   tree-ok = first-accepted (treeCheck t) (outputCheck (memberCount (network t)) out) ok
@@ -50,12 +48,17 @@ module _ (t : Tree) (out : List ℕ) (ok : membersCheck t out ≡ accepted) wher
   list = ap (λ (c : Check). written c out (byArc (network t))) ok
 
   gifts : (k : ℕ) → In (network t .arcs) k → Even (network t) k (gift (network t) k)
-  gifts k i = gift-even (network t) k (some-users t acc k i)
+  gifts k i =
+      gift-even (network t) k
+      (⊎-elim
+      (λ (u : used (network t) everyone k ≡ true). inl (used-count (network t) k u))
+      (λ (u : used (network t) everyone k ≡ false). inr (unused-free t k i u))
+      (both (used (network t) everyone k)))
 
   core : Core (network t) (map pos (byArcList t out))
   core =
       rw list
-      (need-to-core (network t) (acc .rooted) (members-end t) (map pos (byArc (network t)))
+      (need-to-core (network t) (acc .rooted) (members-end t acc) (map pos (byArc (network t)))
       (even-core (network t) (byArc (network t)) (gift (network t)) gifts (by-arc-at (network t)) (acc .rooted)))
 
   -- no share is above the whole cost
@@ -94,5 +97,5 @@ by-arc-laws t out ok =
           (even-near (network t) j h (acc t out ok .rooted) (gift (network t)) (gifts t out ok));
       theorem-1 = shapley-by-arcs (network t);
       whole-part =
-          λ k a. whole-part (network t) k (some-users t (acc t out ok) k (record { low = a .first; high = a .last }));
+          λ k a u. whole-part (network t) k (used-count (network t) k u);
     }

@@ -15,17 +15,17 @@ use Rattle.basics.proofs.Sums.{In}
 use Rattle.game.specs.Tree.{Tree, network, ofArc, hasChild}
 use Rattle.game.proofs.Certificate.{parent-in}
 use Rattle.game.proofs.Excess.{MembersEnd}
-use Rattle.game.proofs.DeadEnds.{no-child, dead-ends, unused-free}
+use Rattle.game.proofs.Counted.{unused-free}
 use Rattle.game.proofs.Bounds as Bounds
 use Rattle.game.proofs.Runs as Runs
 use Rattle.game.proofs.Core.{core-to-bound, bound-to-need, need-to-core, core-nonneg}
 use Rattle.answers.specs.CoreLaws.{RunTop, LowerInRun, CoreStatement}
 use Rattle.answers.proofs.Accepted.{Accepted, tree-accepted}
 
--- a member is a vertex without a child
-pub members-end : (t : Tree) → MembersEnd (network t)
+-- no member has a child
+pub members-end : (t : Tree) → Accepted t → MembersEnd (network t)
 unfolding hasChild
-members-end t v m = no-child (t .parents) v m
+members-end t ok v m = ok .ends v m
 
 not-negative : (x : ℤ) → minus x ≡ 0 → pos 0 ≤ℤ x
 not-negative x e = less-le (pos 0) x (less-parts (pos 0)) (less-parts x) (omega arith)
@@ -38,27 +38,26 @@ core-laws t e =
       bound-is-only-theirs = λ k a. Bounds.bound-is-only-theirs n k;
       need-at-most-bound = λ k a. Bounds.need-le-bound n (ok .rooted) k;
       need-is-bound = λ k a top.
-          Bounds.need-is-bound n (ok .rooted) (free ok) k (record { first = a .first; last = a .last }) (other k top);
+          Bounds.need-is-bound n (ok .rooted) (unused-free t) k (record { first = a .first; last = a .last })
+          (other k top);
       run-same-bound = λ p k l. rw (← l .parent) (Runs.run-same-bound n (ok .rooted) k (run ok l));
-      run-parent-need = λ p k l. rw (← l .parent) (Runs.run-parent-need n (ok .rooted) k (run ok l) (free ok));
-      run-need-is-bound = λ p k l. rw (← l .parent) (Runs.run-need-is-bound n (ok .rooted) k (run ok l) (free ok));
+      run-parent-need = λ p k l. rw (← l .parent) (Runs.run-parent-need n (ok .rooted) k (run ok l) (unused-free t));
+      run-need-is-bound = λ p k l.
+          rw (← l .parent) (Runs.run-need-is-bound n (ok .rooted) k (run ok l) (unused-free t));
       core-by-bound =
           λ shares. (
             core-to-bound n shares,
-            λ c. need-to-core n (ok .rooted) (members-end t) shares (bound-to-need n (ok .rooted) shares c),
+            λ c. need-to-core n (ok .rooted) (members-end t ok) shares (bound-to-need n (ok .rooted) shares c),
           );
       core-by-need =
           λ shares. (
             λ c. bound-to-need n (ok .rooted) shares (core-to-bound n shares c),
-            need-to-core n (ok .rooted) (members-end t) shares,
+            need-to-core n (ok .rooted) (members-end t ok) shares,
           );
       core-not-negative =
-          λ shares c j h. not-negative (share shares j) (core-nonneg n (ok .rooted) (members-end t) shares c j h);
+          λ shares c j h. not-negative (share shares j) (core-nonneg n (ok .rooted) (members-end t ok) shares c j h);
     }
   where
-    free : Accepted t → Bounds.UnusedFree (network t)
-    free ok = unused-free (network t) (ok .rooted) (dead-ends (t .parents) (t .costs))
-
     other : (k : ℕ) → RunTop t k → (ofArc (t .parents) k ≡ 0) ⊎ Bounds.OtherUser (network t) k
     other k (inl z) = inl z
     other k (inr o) =

@@ -27,6 +27,7 @@ use Rattle.game.proofs.Bump.{squares}
 use Rattle.game.proofs.LevelRule.{Reached, Admits, reached-total}
 use Rattle.game.proofs.LevelList.{view, view-off, Stands, level-stands}
 use Rattle.answer_forms.specs.Answer.{Check, accepted, _then_}
+use Rattle.game.proofs.Excess.{MembersEnd}
 use Rattle.answers.specs.Checks.{treeCheck, outputCheck}
 use Rattle.answers.specs.Level.{LevelAnswer, split, refusal, capSum, shortArc, splitOr9, capsCheck, levelOr}
 use Rattle.answers.specs.Level.{levelCheck, levelAnswer, levelList, listAfter}
@@ -48,6 +49,9 @@ module _ (t : Tree) (ok : treeCheck t ≡ accepted) (caps : List ℕ) where
   rooted : Rooted (network t)
   rooted = tree-accepted t ok .rooted
 
+  ends : MembersEnd (network t)
+  ends = members-end t (tree-accepted t ok)
+
   module _ (shares : List ℤ) (none-less : (j : ℕ) → j < memberCount (network t) → minus (share shares j) ≡ 0) where
     -- by vertex
     square-sum : squareSum t shares ≡ pos (squares (network t .arcs) (over-at (network t) shares))
@@ -63,7 +67,7 @@ module _ (t : Tree) (ok : treeCheck t ≡ accepted) (caps : List ℕ) where
   -- a list in the core that keeps the caps is one that the rule's list is compared with
   module _ (shares : List ℤ) (fits : Fits t caps shares) where
     none-less : (j : ℕ) → j < memberCount (network t) → minus (share shares j) ≡ 0
-    none-less = core-nonneg (network t) rooted (members-end t) shares (fits .in-core)
+    none-less = core-nonneg (network t) rooted ends shares (fits .in-core)
 
     below-cap : (v : ℕ) → In (network t .arcs) v → over-at (network t) shares v ≤ view (network t) caps v
     below-cap v i =
@@ -84,7 +88,7 @@ module _ (t : Tree) (ok : treeCheck t ≡ accepted) (caps : List ℕ) where
     has-need : (k : ℕ) → In (network t .arcs) k
         → need (network t) k ≤ sumBelow (network t) (over-at (network t) shares) k
     has-need =
-        enough (network t) rooted (members-end t) shares
+        enough (network t) rooted ends shares
         (bound-to-need (network t) rooted shares (core-to-bound (network t) shares (fits .in-core)))
 
     caps-enough : (k : ℕ) → In (network t .arcs) k → need (network t) k ≤ capSum (network t) caps k
@@ -154,7 +158,7 @@ module _ (t : Tree) (ok : treeCheck t ≡ accepted) (caps : List ℕ) where
     fits-given =
         record {
           one-a-member = length-map given pos ∙ stands .sized;
-          in-core = need-to-core (network t) rooted (members-end t) (map pos given) by-need;
+          in-core = need-to-core (network t) rooted ends (map pos given) by-need;
           keeps-caps = keeps-caps;
         }
 

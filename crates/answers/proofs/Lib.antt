@@ -1,4 +1,5 @@
 pub mod Accepted
+pub mod DeadEnds
 pub mod Limits
 pub mod Laws
 pub mod AuditLaws
@@ -8,3 +9,4 @@ pub mod ShortArc
 pub mod Table
 mod InRange
 pub mod ByArcLaws
+pub mod Unused

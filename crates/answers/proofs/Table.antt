@@ -1,13 +1,14 @@
 -- The table, by evaluation.
 use mathlib.Core.Path.{refl}
 use Rattle.game.specs.Network.{climb, used, groupCost, sumBelow, wholeCost, membersTo}
-use Rattle.game.specs.Tree.{hasChild, deadEnds}
+use Rattle.game.specs.Tree.{hasChild, deadEnds, countedCosts}
 use Rattle.basics.specs.Bit.{bit}
 use Rattle.basics.specs.Sum.{size, entries}
 use Rattle.game.specs.Group.{wordsOf}
 use Rattle.game.specs.Proposal.{pays}
 use Rattle.game.specs.Search.{groups, best, named}
-use Rattle.answers.specs.Checks.{arcsCheck, treeCheck, bitsCheck, rangeCheck}
+use Rattle.answers.specs.Checks.{arcByArc, treeCheck, plainCheck, bitsCheck, rangeCheck}
+use Rattle.answers.specs.DeadEnds.{deadEndsAnswer, deadEndsList}
 use Rattle.answers.specs.Members.{memberCountAnswer, membersAnswer, membersList}
 use Rattle.answers.specs.Needs.{needsAnswer, needsList}
 use Rattle.answers.specs.GroupCost.{groupCostAnswer}
@@ -19,10 +20,10 @@ use Rattle.answers.specs.ByArc.{byArcAnswer, byArcList}
 use Rattle.answers.specs.Table.{Table}
 
 pub table : Table
-unfolding climb used groupCost sumBelow wholeCost membersTo hasChild deadEnds bit size entries wordsOf pays groups
-    best named arcsCheck treeCheck bitsCheck rangeCheck memberCountAnswer membersAnswer membersList needsAnswer
-    needsList groupCostAnswer verdict auditAnswer auditWords firstLeast units arcsDown shortArc levelAnswer levelList
-    giveArc byArcDown byArcAnswer byArcList
+unfolding climb used groupCost sumBelow wholeCost membersTo hasChild deadEnds countedCosts bit size entries wordsOf pays
+    groups best named arcByArc treeCheck plainCheck deadEndsAnswer deadEndsList bitsCheck rangeCheck
+    memberCountAnswer membersAnswer membersList needsAnswer needsList groupCostAnswer verdict auditAnswer auditWords
+    firstLeast units arcsDown shortArc levelAnswer levelList giveArc byArcDown byArcAnswer byArcList
 table =
     record {
       T-members = refl;
@@ -58,4 +59,21 @@ table =
       U-by-arc-list = refl;
       T-level-0 = refl;
       U-level-100-list = refl;
+      T-dead-ends = refl;
+      T-dead-ends-list = refl;
+      T-dead-ends-short = refl;
+      T-dead-ends-short-list = refl;
+      spare-vertices = refl;
+      spare-vertices-list = refl;
+      spare-needs = refl;
+      spare-needs-list = refl;
+      spare-cost-of-0 = refl;
+      spare-by-arc = refl;
+      spare-by-arc-list = refl;
+      spare-level-100 = refl;
+      spare-level-100-list = refl;
+      mark-2 = refl;
+      mark-2-list = refl;
+      mark-of-parent = refl;
+      no-marks = refl;
     }

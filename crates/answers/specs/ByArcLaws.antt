@@ -1,11 +1,12 @@
 -- Demand 2 of the by-arc split, about its own lists.
 use Prim.Native.Nat.{ℕ, _*_, _/_, _<_}
 use mathlib.Core.Path.{_≡_}
+use mathlib.Core.Bool.{true}
 use mathlib.Core.List.{List, map}
 use lib.ListN.{length, getD}
 use lib.IntN.{pos}
 use Rattle.basics.specs.Sum.{pick, sum}
-use Rattle.game.specs.Network.{memberCount}
+use Rattle.game.specs.Network.{memberCount, used, everyone}
 use Rattle.game.specs.Tree.{Tree, network}
 use Rattle.game.specs.Core.{users, Core}
 use Rattle.game.specs.ByArc.{userCount}
@@ -35,8 +36,8 @@ pub record ByArcLaws (t : Tree) (out : List ℕ) : Type 0 where
       → shapley (network t) j
       ≡ sum (network t .arcs)
       (λ k. pick (users (network t) k j) (network t .cost k * (membersFactorial t / userCount (network t) k)))
-  -- n! divided by the number of an arc's users is whole
-  pub whole-part : (k : ℕ) → ArcOf t k
+  -- n! divided by the number of an arc's users is whole, where it has some
+  pub whole-part : (k : ℕ) → ArcOf t k → used (network t) everyone k ≡ true
       → userCount (network t) k * (membersFactorial t / userCount (network t) k) ≡ membersFactorial t
 
 abbrev pub ByArcStatement : Type 0

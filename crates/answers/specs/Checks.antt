@@ -1,31 +1,52 @@
 -- The checks on lists as they are handed in, with the specification's numbers and places (§7).
 use Prim.Native.Nat.{ℕ, zero, suc, _+_, _-_}
-use mathlib.Core.Bool.{Bool, _||_, not}
+use mathlib.Core.Bool.{Bool, _||_, _&&_, not}
 use mathlib.Core.List.{List, [], _∷_}
 use lib.ListN.{length}
 use lib.IntN.{ℤ, natAbs}
 use lib.Dec.{eqb, ltb, leb}
-use Rattle.game.specs.Tree.{Tree}
+use Rattle.game.specs.Tree.{Tree, ofArc, hasChild, marked}
+use Rattle.basics.specs.Sum.{some}
 use Rattle.basics.specs.Bit.{bit}
 use Rattle.limits.specs.Limits.{mostArcs, groupBits, mostCost, mostShare}
 use Rattle.answer_forms.specs.Answer.{Check, accepted, fault, _then_}
 
+-- two lists differ in length
+abbrev pub unlike : List ℕ → List ℕ → Bool
+unlike a b = not (eqb (length a) (length b))
+
+-- 1: there is no arc, or more than 1,023
+abbrev pub arcCountCheck : List ℕ → Check
+arcCountCheck parents = fault (eqb (length parents) 0 || ltb mostArcs (length parents)) 1 0
+
 -- at arc k: 3 where the parent is not below it, then 4 where the cost is above the limit
-abbrev pub arcCheck : ℕ → ℕ → ℕ → Check
-arcCheck k parent cost = fault (leb k parent) 3 k then fault (ltb mostCost cost) 4 k
+abbrev pub arcCheck : List ℕ → List ℕ → ℕ → Check
+arcCheck parents costs k = fault (leb k (ofArc parents k)) 3 k then fault (ltb mostCost (ofArc costs k)) 4 k
 
--- arc by arc; the first entries are those of arc k
-unfoldable pub arcsCheck : ℕ → List ℕ → List ℕ → Check
-arcsCheck k [] costs = accepted
-arcsCheck k (p ∷ parents) [] = accepted
-arcsCheck k (p ∷ parents) (c ∷ costs) = arcCheck k p c then arcsCheck (k + 1) parents costs
+-- at vertex k: 16 where the mark is neither 0 nor 1, then 17 where it is 1 and some entry names the vertex as a parent
+abbrev pub markCheck : List ℕ → List ℕ → ℕ → Check
+markCheck parents marks k = fault (ltb 1 (ofArc marks k)) 16 k then fault (marked marks k && hasChild parents k) 17 k
 
--- 1, 2, then 3 and 4 arc by arc from 1
+-- a check arc by arc, from arc 1 to arc k
+unfoldable pub arcByArc : (ℕ → Check) → ℕ → Check
+arcByArc check zero = accepted
+arcByArc check (suc k) = arcByArc check k then check (suc k)
+
+-- 1, 2, then 3, 4, 16 and 17 arc by arc, and 18 where no vertex is marked
 unfoldable pub treeCheck : Tree → Check
 treeCheck t =
-    fault (eqb (length (t .parents)) 0 || ltb mostArcs (length (t .parents))) 1 0
-    then fault (not (eqb (length (t .parents)) (length (t .costs)))) 2 0
-    then arcsCheck 1 (t .parents) (t .costs)
+    arcCountCheck (t .parents)
+    then fault (unlike (t .parents) (t .costs) || unlike (t .parents) (t .marks)) 2 0
+    then arcByArc (λ k. arcCheck (t .parents) (t .costs) k then markCheck (t .parents) (t .marks) k)
+    (length (t .parents))
+    then fault (not (some (length (t .parents)) (marked (t .marks)))) 18 0
+
+-- the lists without marks: 1, 2, then 3 and 4 arc by arc
+unfoldable pub plainCheck : List ℕ → List ℕ → Check
+plainCheck parents costs =
+    arcCountCheck parents
+    then fault (unlike parents costs) 2 0
+    then arcByArc (arcCheck parents costs) (length parents)
 
 -- 5 at the lowest bit that is set from bit j on, with f bits left to look at
 unfoldable pub bitsCheck : List ℕ → ℕ → ℕ → Check

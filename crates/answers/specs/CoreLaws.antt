@@ -38,13 +38,13 @@ pub record CoreLaws (t : Tree) : Type 0 where
   -- the need is never above it, and equals it at the top of an unbranched run
   pub need-at-most-bound : (k : ℕ) → ArcOf t k → pos (need (network t) k) ≤ℤ bound (network t) k
   pub need-is-bound : (k : ℕ) → ArcOf t k → RunTop t k → pos (need (network t) k) ≡ bound (network t) k
-  -- lower in the run the bound is the parent's, and the need is less than the parent's by the parent's cost
+  -- lower in the run the bound is the parent's, and the need is less than the parent's by the parent's counted cost
   pub run-same-bound : (p k : ℕ) → LowerInRun t p k → bound (network t) k ≡ bound (network t) p
-  pub run-parent-need : (p k : ℕ) → LowerInRun t p k → need (network t) p ≡ ofArc (t .costs) p + need (network t) k
-  -- so it equals the bound exactly where the parent's cost is 0 and the parent's need is the parent's bound
+  pub run-parent-need : (p k : ℕ) → LowerInRun t p k → need (network t) p ≡ network t .cost p + need (network t) k
+  -- so it equals the bound exactly where that cost is 0 and the parent's need is the parent's bound
   pub run-need-is-bound : (p k : ℕ) → LowerInRun t p k
       → (pos (need (network t) k) ≡ bound (network t) k)
-      ↔ ((ofArc (t .costs) p ≡ 0) × (pos (need (network t) p) ≡ bound (network t) p))
+      ↔ ((network t .cost p ≡ 0) × (pos (need (network t) p) ≡ bound (network t) p))
   -- Theorem 2 of the paper: the core over all groups is described by the bounds of the arcs
   pub core-by-bound : (shares : List ℤ) → Core (network t) shares ↔ CoreByBound (network t) shares
   -- and by their needs

@@ -6,7 +6,7 @@ use lib.ListN.{length, getD}
 use lib.Dec.{eqb}
 use Rattle.basics.specs.Sum.{pick, sum, count}
 use Rattle.game.specs.Network.{user, used, groupCost, everyone, need, wholeCost, number, members}
-use Rattle.game.specs.Tree.{Tree, network, ofArc, hasChild}
+use Rattle.game.specs.Tree.{Tree, network, ofArc, marked, deadEnds, countedCosts}
 use Rattle.game.specs.Group.{byNumber}
 use Rattle.answer_forms.specs.Answer.{accepted}
 use Rattle.answers.specs.Checks.{treeCheck}
@@ -30,22 +30,23 @@ PartOf g h = (j : ℕ) → g j ≡ true → h j ≡ true
 
 pub record GameLaws (t : Tree) : Type 0 where
   -- entry j of the members' list is the vertex of member j
-  pub member-at : (v : ℕ) → ArcOf t v → hasChild (t .parents) v ≡ false
+  pub member-at : (v : ℕ) → ArcOf t v → marked (t .marks) v ≡ true
       → getD (members (network t)) (number (network t) v) 0 ≡ v
-  -- an arc's need is its cost plus the needs of its child arcs
+  -- an arc's need is its counted cost plus the needs of its child arcs
   pub need-of-children : (k : ℕ) → ArcOf t k
       → need (network t) k
-      ≡ ofArc (t .costs) k
+      ≡ ofArc (countedCosts t) k
       + sum (length (t .parents)) (λ u. pick (eqb (ofArc (t .parents) u) k) (need (network t) u))
   -- the only user of a member's arc is that member
-  pub users-of-member : (k v : ℕ) → ArcOf t k → ArcOf t v → hasChild (t .parents) k ≡ false
+  pub users-of-member : (k v : ℕ) → ArcOf t k → ArcOf t v → marked (t .marks) k ≡ true
       → user (network t) k v ≡ eqb k v
   -- a user of any other arc is a user of one of its child arcs, and of one only
-  pub users-of-children : (k v : ℕ) → ArcOf t k → ArcOf t v → hasChild (t .parents) k ≡ true
+  pub users-of-children : (k v : ℕ) → ArcOf t k → ArcOf t v → marked (t .marks) k ≡ false
       → pick (user (network t) k v) 1
       ≡ count (length (t .parents)) (λ u. eqb (ofArc (t .parents) u) k && user (network t) u v)
-  -- every arc has a user
-  pub every-arc-used : (k : ℕ) → ArcOf t k → used (network t) everyone k ≡ true
+  -- where the marks are the dead ends every arc has a user, and the counted costs are the costs as they are handed in
+  pub every-arc-used : t .marks ≡ deadEnds (t .parents) → (k : ℕ) → ArcOf t k → used (network t) everyone k ≡ true
+  pub counted-as-given : t .marks ≡ deadEnds (t .parents) → countedCosts t ≡ t .costs
   -- the group of all costs the whole cost, the empty group 0
   pub all-cost-whole : costOf t (λ j. true) ≡ wholeCost (network t)
   pub none-cost-nothing : costOf t (λ j. false) ≡ 0

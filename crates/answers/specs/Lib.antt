@@ -5,10 +5,12 @@ pub mod GroupCost
 pub mod Audit
 pub mod Level
 pub mod ByArc
+pub mod DeadEnds
 pub mod Limits
 pub mod Laws
 pub mod AuditLaws
 pub mod CoreLaws
 pub mod LevelLaws
 pub mod ByArcLaws
+pub mod Unused
 pub mod Table

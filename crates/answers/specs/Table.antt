@@ -4,8 +4,9 @@ use mathlib.Core.Path.{_≡_}
 use mathlib.Core.List.{List, [], _∷_}
 use lib.ListN.{replicate}
 use lib.IntN.{pos, negsuc}
-use Rattle.game.specs.Tree.{Tree}
-use Rattle.answer_forms.specs.Answer.{value}
+use Rattle.game.specs.Tree.{Tree, treeOf, deadEndTree}
+use Rattle.answer_forms.specs.Answer.{value, refusal as no}
+use Rattle.answers.specs.DeadEnds.{deadEndsAnswer, deadEndsList}
 use Rattle.answers.specs.Members.{memberCountAnswer, membersAnswer, membersList}
 use Rattle.answers.specs.Needs.{needsAnswer, needsList}
 use Rattle.answers.specs.GroupCost.{groupCostAnswer}
@@ -15,15 +16,23 @@ use Rattle.answers.specs.ByArc.{byArcAnswer, byArcList}
 
 -- the tree T of the specification, §10
 abbrev pub T : Tree
-T = record { parents = 0 ∷ 1 ∷ 1 ∷ 0 ∷ []; costs = 6 ∷ 1 ∷ 5 ∷ 4 ∷ [] }
+T = deadEndTree (0 ∷ 1 ∷ 1 ∷ 0 ∷ []) (6 ∷ 1 ∷ 5 ∷ 4 ∷ [])
+
+-- T with these marks
+abbrev pub T-marked : ℕ → ℕ → ℕ → ℕ → Tree
+T-marked a b c d = treeOf (T .parents) (T .costs) (a ∷ b ∷ c ∷ d ∷ [])
+
+-- T where vertex 3 is a plot with nobody on it
+abbrev pub T-spare : Tree
+T-spare = T-marked 0 1 0 1
 
 -- the tree U
 abbrev pub U : Tree
-U = record { parents = 0 ∷ 1 ∷ 1 ∷ []; costs = 7 ∷ 0 ∷ 0 ∷ [] }
+U = deadEndTree (0 ∷ 1 ∷ 1 ∷ []) (7 ∷ 0 ∷ 0 ∷ [])
 
 -- the tree W
 abbrev pub W : Tree
-W = record { parents = 0 ∷ 1 ∷ 1 ∷ 0 ∷ []; costs = 10 ∷ 1 ∷ 1 ∷ 8 ∷ [] }
+W = deadEndTree (0 ∷ 1 ∷ 1 ∷ 0 ∷ []) (10 ∷ 1 ∷ 1 ∷ 8 ∷ [])
 
 -- the sixteen words whose first is w and whose others are 0
 abbrev pub group : ℕ → List ℕ
@@ -68,3 +77,21 @@ pub record Table : Type 0 where
   -- beyond the specification's rows: every arc is short, and a rest of 1 between two users
   pub T-level-0 : levelAnswer T (0 ∷ 0 ∷ 0 ∷ []) (lent 3) ≡ refusal 9 4 4
   pub U-level-100-list : levelList U (100 ∷ 100 ∷ []) (lent 2) ≡ 4 ∷ 3 ∷ []
+  -- marks
+  pub T-dead-ends : deadEndsAnswer (T .parents) (T .costs) (lent 4) ≡ value 3
+  pub T-dead-ends-list : deadEndsList (T .parents) (T .costs) (lent 4) ≡ 0 ∷ 1 ∷ 1 ∷ 1 ∷ []
+  pub T-dead-ends-short : deadEndsAnswer (T .parents) (T .costs) (lent 3) ≡ no 8 0
+  pub T-dead-ends-short-list : deadEndsList (T .parents) (T .costs) (lent 3) ≡ lent 3
+  pub spare-vertices : membersAnswer T-spare (lent 2) ≡ value 2
+  pub spare-vertices-list : membersList T-spare (lent 2) ≡ 2 ∷ 4 ∷ []
+  pub spare-needs : needsAnswer T-spare (lent 4) ≡ value (record { whole = 11; members = 2 })
+  pub spare-needs-list : needsList T-spare (lent 4) ≡ 7 ∷ 1 ∷ 0 ∷ 4 ∷ []
+  pub spare-cost-of-0 : groupCostAnswer T-spare (group 1) ≡ value (record { size = 1; cost = 7 })
+  pub spare-by-arc : byArcAnswer T-spare (lent 2) ≡ value 2
+  pub spare-by-arc-list : byArcList T-spare (lent 2) ≡ 7 ∷ 4 ∷ []
+  pub spare-level-100 : levelAnswer T-spare (100 ∷ 100 ∷ []) (lent 2) ≡ split 2
+  pub spare-level-100-list : levelList T-spare (100 ∷ 100 ∷ []) (lent 2) ≡ 7 ∷ 4 ∷ []
+  pub mark-2 : membersAnswer (T-marked 0 1 2 1) (lent 2) ≡ no 16 3
+  pub mark-2-list : membersList (T-marked 0 1 2 1) (lent 2) ≡ lent 2
+  pub mark-of-parent : membersAnswer (T-marked 1 1 2 1) (lent 3) ≡ no 17 1
+  pub no-marks : membersAnswer (T-marked 0 0 0 0) (lent 4) ≡ no 18 0

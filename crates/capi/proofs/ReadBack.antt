@@ -9,7 +9,8 @@ use native.Mathlib.Omega.{arith}
 use Rattle.game.specs.Network.{Network, memberCount}
 use Rattle.game.specs.Tree.{Tree, network}
 use Rattle.answer_forms.specs.Answer.{Check, accepted, refused, Answer, value, refusal, _then_, answer}
-use Rattle.answers.specs.Checks.{treeCheck, groupCheck, outputCheck, proposalCheck, outsideShare}
+use Rattle.answers.specs.Checks.{treeCheck, plainCheck, groupCheck, outputCheck, proposalCheck, outsideShare}
+use Rattle.answers.specs.DeadEnds.{deadEndsCheck, deadEndsAnswer}
 use Rattle.answers.specs.Members.{memberCountAnswer, membersCheck, membersAnswer}
 use Rattle.answers.specs.Needs.{needsAnswer}
 use Rattle.answers.specs.GroupCost.{groupCostAnswer}
@@ -20,7 +21,8 @@ use Rattle.job.specs.Reader.{Lent, readCheck, jobAnswer}
 use Rattle.capi.specs.Structs.{encodeMembers, decodeMembers, encodeNeeds, decodeNeeds, encodeGroup, decodeGroup}
 use Rattle.capi.specs.Structs.{encodeAudit, decodeAudit, VerdictUnlessRefused, encodeLevel, decodeLevel}
 use Rattle.capi.specs.Structs.{encodeJob, decodeJob}
-use Rattle.capi.proofs.Kept.{Kept, then-kept, tree-kept, bits-kept, list-kept, output-kept, read-kept}
+use Rattle.capi.proofs.Kept.{Kept, then-kept, tree-kept, plain-kept, bits-kept, list-kept, output-kept}
+use Rattle.capi.proofs.Kept.{read-kept}
 
 -- s is the struct of an answer that can be read back: what it stands for, and that its other fields are 0
 pub stands-for : {A S : Type 0} (encode : A → S) (decode : S → A) {a found : A} {s : S} → s ≡ encode found → found ≡ a
@@ -61,6 +63,14 @@ pub by-arc-back : (t : Tree) (out : List ℕ) → decodeMembers (encodeMembers (
 unfolding byArcAnswer
 by-arc-back t out =
     count-back (membersCheck t out) (memberCount (network t)) (members-kept t (memberCount (network t)) out)
+
+pub dead-ends-back : (parents costs out : List ℕ)
+    → decodeMembers (encodeMembers (deadEndsAnswer parents costs out)) ≡ deadEndsAnswer parents costs out
+unfolding deadEndsAnswer
+dead-ends-back parents costs out =
+    count-back (deadEndsCheck parents costs out) _
+    (then-kept (plainCheck parents costs) (outputCheck (length parents) out) (plain-kept parents costs)
+    (output-kept (length parents) out))
 
 pub needs-back : (t : Tree) (out : List ℕ) → decodeNeeds (encodeNeeds (needsAnswer t out)) ≡ needsAnswer t out
 unfolding needsAnswer

@@ -29,11 +29,16 @@ fn encode(found: Checked) -> ZilqodurCheck
 }
 
 #[no_mangle]
-pub extern "C" fn zilqodur_check_tree(parents: &[u16], costs: &[u32]) -> ZilqodurCheck
-    ensures { λ r. ⌜ decodeCheck r ≡ treeCheck (treeOf (now (parents .entry)) (now (costs .entry))) ⌝ }
+pub extern "C" fn zilqodur_check_tree(
+    parents: &[u16],
+    costs: &[u32],
+    marks: &[u16],
+) -> ZilqodurCheck
+    ensures { λ r. ⌜ decodeCheck r
+        ≡ treeCheck (treeOf (now (parents .entry)) (now (costs .entry)) (now (marks .entry))) ⌝ }
     ensures { λ r. ⌜ r ≡ encodeCheck (decodeCheck r) ⌝ }
 {
-    encode(engine::check_tree(parents, costs))
+    encode(engine::check_tree(parents, costs, marks))
 }
 
 #[no_mangle]

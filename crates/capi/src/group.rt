@@ -37,11 +37,13 @@ fn encode(found: GroupCost) -> ZilqodurGroup
 pub extern "C" fn zilqodur_group_cost(
     parents: &[u16],
     costs: &[u32],
+    marks: &[u16],
     group: &[u64; 16],
 ) -> ZilqodurGroup
     ensures { λ r. ⌜ decodeGroup r
-        ≡ groupCostAnswer (treeOf (now (parents .entry)) (now (costs .entry))) (now (group .entry)) ⌝ }
+        ≡ groupCostAnswer (treeOf (now (parents .entry)) (now (costs .entry)) (now (marks .entry)))
+        (now (group .entry)) ⌝ }
     ensures { λ r. ⌜ r ≡ encodeGroup (decodeGroup r) ⌝ }
 {
-    encode(engine::group_cost(parents, costs, *group))
+    encode(engine::group_cost(parents, costs, marks, *group))
 }

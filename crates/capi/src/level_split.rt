@@ -41,14 +41,17 @@ fn encode(found: LevelSplit) -> ZilqodurLevel
 pub extern "C" fn zilqodur_split_level(
     parents: &[u16],
     costs: &[u32],
+    marks: &[u16],
     caps: &[u64],
     out: &mut [u64],
 ) -> ZilqodurLevel
     ensures { λ r. ⌜ decodeLevel r
-        ≡ levelAnswer (treeOf (now (parents .entry)) (now (costs .entry))) (now (caps .entry)) (now (out .entry)) ⌝ }
+        ≡ levelAnswer (treeOf (now (parents .entry)) (now (costs .entry)) (now (marks .entry)))
+        (now (caps .entry)) (now (out .entry)) ⌝ }
     ensures { λ r. ⌜ r ≡ encodeLevel (decodeLevel r) ⌝ }
     ensures { λ _. ⌜ now (out .exit)
-        ≡ levelList (treeOf (now (parents .entry)) (now (costs .entry))) (now (caps .entry)) (now (out .entry)) ⌝ }
+        ≡ levelList (treeOf (now (parents .entry)) (now (costs .entry)) (now (marks .entry)))
+        (now (caps .entry)) (now (out .entry)) ⌝ }
 {
-    encode(engine::split_level(parents, costs, caps, out))
+    encode(engine::split_level(parents, costs, marks, caps, out))
 }

@@ -31,24 +31,30 @@ pub fn encode(found: MemberCount) -> ZilqodurMembers
 }
 
 #[no_mangle]
-pub extern "C" fn zilqodur_count_members(parents: &[u16], costs: &[u32]) -> ZilqodurMembers
-    ensures { λ r. ⌜ decodeMembers r ≡ memberCountAnswer (treeOf (now (parents .entry)) (now (costs .entry))) ⌝ }
+pub extern "C" fn zilqodur_count_members(
+    parents: &[u16],
+    costs: &[u32],
+    marks: &[u16],
+) -> ZilqodurMembers
+    ensures { λ r. ⌜ decodeMembers r
+        ≡ memberCountAnswer (treeOf (now (parents .entry)) (now (costs .entry)) (now (marks .entry))) ⌝ }
     ensures { λ r. ⌜ r ≡ encodeMembers (decodeMembers r) ⌝ }
 {
-    encode(engine::count_members(parents, costs))
+    encode(engine::count_members(parents, costs, marks))
 }
 
 #[no_mangle]
 pub extern "C" fn zilqodur_list_members(
     parents: &[u16],
     costs: &[u32],
+    marks: &[u16],
     out: &mut [u16],
 ) -> ZilqodurMembers
     ensures { λ r. ⌜ decodeMembers r
-        ≡ membersAnswer (treeOf (now (parents .entry)) (now (costs .entry))) (now (out .entry)) ⌝ }
+        ≡ membersAnswer (treeOf (now (parents .entry)) (now (costs .entry)) (now (marks .entry))) (now (out .entry)) ⌝ }
     ensures { λ r. ⌜ r ≡ encodeMembers (decodeMembers r) ⌝ }
     ensures { λ _. ⌜ now (out .exit)
-        ≡ membersList (treeOf (now (parents .entry)) (now (costs .entry))) (now (out .entry)) ⌝ }
+        ≡ membersList (treeOf (now (parents .entry)) (now (costs .entry)) (now (marks .entry))) (now (out .entry)) ⌝ }
 {
-    encode(engine::list_members(parents, costs, out))
+    encode(engine::list_members(parents, costs, marks, out))
 }

@@ -37,13 +37,14 @@ fn encode(found: NeedsFound) -> ZilqodurNeeds
 pub extern "C" fn zilqodur_list_needs(
     parents: &[u16],
     costs: &[u32],
+    marks: &[u16],
     out: &mut [u64],
 ) -> ZilqodurNeeds
     ensures { λ r. ⌜ decodeNeeds r
-        ≡ needsAnswer (treeOf (now (parents .entry)) (now (costs .entry))) (now (out .entry)) ⌝ }
+        ≡ needsAnswer (treeOf (now (parents .entry)) (now (costs .entry)) (now (marks .entry))) (now (out .entry)) ⌝ }
     ensures { λ r. ⌜ r ≡ encodeNeeds (decodeNeeds r) ⌝ }
     ensures { λ _. ⌜ now (out .exit)
-        ≡ needsList (treeOf (now (parents .entry)) (now (costs .entry))) (now (out .entry)) ⌝ }
+        ≡ needsList (treeOf (now (parents .entry)) (now (costs .entry)) (now (marks .entry))) (now (out .entry)) ⌝ }
 {
-    encode(engine::list_needs(parents, costs, out))
+    encode(engine::list_needs(parents, costs, marks, out))
 }

@@ -60,15 +60,22 @@ fn encode(found: AuditFound, group: [u64; 16]) -> ZilqodurAudit
 }
 
 #[no_mangle]
-pub extern "C" fn zilqodur_audit(parents: &[u16], costs: &[u32], proposal: &[i64]) -> ZilqodurAudit
+pub extern "C" fn zilqodur_audit(
+    parents: &[u16],
+    costs: &[u32],
+    marks: &[u16],
+    proposal: &[i64],
+) -> ZilqodurAudit
     ensures { λ r. ⌜ decodeAudit r
-        ≡ auditAnswer (treeOf (now (parents .entry)) (now (costs .entry))) (now (proposal .entry)) ⌝ }
+        ≡ auditAnswer (treeOf (now (parents .entry)) (now (costs .entry)) (now (marks .entry)))
+        (now (proposal .entry)) ⌝ }
     ensures { λ r. ⌜ r
         ≡ encodeAudit (decodeAudit r)
-        (auditWords (treeOf (now (parents .entry)) (now (costs .entry))) (now (proposal .entry))) ⌝ }
+        (auditWords (treeOf (now (parents .entry)) (now (costs .entry)) (now (marks .entry)))
+        (now (proposal .entry))) ⌝ }
     ensures { λ r. ⌜ VerdictUnlessRefused r ⌝ }
 {
-    let audited = engine::audit(parents, costs, proposal);
+    let audited = engine::audit(parents, costs, marks, proposal);
     let answer = audited.answer;
     let group = audited.group;
     encode(answer, group)

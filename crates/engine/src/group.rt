@@ -39,15 +39,16 @@ fn cost_in_tree(parents: &[u16], costs: &[u32], marks: &[u16], group: [u64; 16])
 }
 
 // The tree's refusals, then 5.
-pub fn group_cost(parents: &[u16], costs: &[u32], group: [u64; 16]) -> GroupCost
-    ensures { λ r. ⌜ groupCostOf r ≡ groupCostAnswer (treeOf (now (parents .entry)) (now (costs .entry))) group ⌝ }
+pub fn group_cost(parents: &[u16], costs: &[u32], marks: &[u16], group: [u64; 16]) -> GroupCost
+    ensures { λ r. ⌜ groupCostOf r
+        ≡ groupCostAnswer (treeOf (now (parents .entry)) (now (costs .entry)) (now (marks .entry))) group ⌝ }
 {
-    let tree = checks::check_tree(parents, costs);
+    let tree = checks::check_tree(parents, costs, marks);
     let Checked::Accepted = tree else {
         return GroupCost::Refused(answer_forms::refusal_of(tree));
     };
     let m = parents.len();
-    let mut marks = [0u16; MOST_ARCS];
-    dead_ends::write_dead_ends(parents, &mut marks[0..m]);
-    cost_in_tree(parents, costs, &marks[0..m], group)
+    let mut counted = [0u32; MOST_ARCS];
+    tree::write_counted(parents, costs, marks, &mut counted[0..m]);
+    cost_in_tree(parents, &counted[0..m], marks, group)
 }

@@ -140,18 +140,26 @@ fn split_in_tree(
 }
 
 // Writes one share a member. The tree's refusals, 6 and 7 on caps, 8, then 9.
-pub fn split_level(parents: &[u16], costs: &[u32], caps: &[u64], out: &mut [u64]) -> LevelSplit
+pub fn split_level(
+    parents: &[u16],
+    costs: &[u32],
+    marks: &[u16],
+    caps: &[u64],
+    out: &mut [u64],
+) -> LevelSplit
     ensures { λ r. ⌜ levelOf r
-        ≡ levelAnswer (treeOf (now (parents .entry)) (now (costs .entry))) (now (caps .entry)) (now (out .entry)) ⌝ }
+        ≡ levelAnswer (treeOf (now (parents .entry)) (now (costs .entry)) (now (marks .entry))) (now (caps .entry))
+        (now (out .entry)) ⌝ }
     ensures { λ _. ⌜ now (out .exit)
-        ≡ levelList (treeOf (now (parents .entry)) (now (costs .entry))) (now (caps .entry)) (now (out .entry)) ⌝ }
+        ≡ levelList (treeOf (now (parents .entry)) (now (costs .entry)) (now (marks .entry))) (now (caps .entry))
+        (now (out .entry)) ⌝ }
 {
-    let tree = checks::check_tree(parents, costs);
+    let tree = checks::check_tree(parents, costs, marks);
     let Checked::Accepted = tree else {
         return refused(answer_forms::refusal_of(tree));
     };
     let m = parents.len();
-    let mut marks = [0u16; MOST_ARCS];
-    dead_ends::write_dead_ends(parents, &mut marks[0..m]);
-    split_in_tree(parents, costs, &marks[0..m], caps, out)
+    let mut counted = [0u32; MOST_ARCS];
+    tree::write_counted(parents, costs, marks, &mut counted[0..m]);
+    split_in_tree(parents, &counted[0..m], marks, caps, out)
 }

@@ -2,6 +2,7 @@
 mod by_arc_split;
 mod group;
 mod level_split;
+mod marks;
 mod members;
 mod needs;
 mod proposal_audit;
@@ -16,6 +17,7 @@ pub use group::GroupCost;
 pub use group::group_cost;
 pub use level_split::LevelSplit;
 pub use level_split::split_level;
+pub use marks::mark_dead_ends;
 pub use members::MemberCount;
 pub use members::count_members;
 pub use members::list_members;

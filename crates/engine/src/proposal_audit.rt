@@ -96,18 +96,20 @@ fn audit_in_tree(parents: &[u16], costs: &[u32], marks: &[u16], proposal: &[i64]
 }
 
 // The tree's refusals, then 6 and 7.
-pub fn audit(parents: &[u16], costs: &[u32], proposal: &[i64]) -> Audited
+pub fn audit(parents: &[u16], costs: &[u32], marks: &[u16], proposal: &[i64]) -> Audited
     ensures { λ r. ⌜ auditOf (r .answer)
-        ≡ auditAnswer (treeOf (now (parents .entry)) (now (costs .entry))) (now (proposal .entry)) ⌝ }
+        ≡ auditAnswer (treeOf (now (parents .entry)) (now (costs .entry)) (now (marks .entry)))
+        (now (proposal .entry)) ⌝ }
     ensures { λ r. ⌜ r .group
-        ≡ auditWords (treeOf (now (parents .entry)) (now (costs .entry))) (now (proposal .entry)) ⌝ }
+        ≡ auditWords (treeOf (now (parents .entry)) (now (costs .entry)) (now (marks .entry)))
+        (now (proposal .entry)) ⌝ }
 {
-    let tree = checks::check_tree(parents, costs);
+    let tree = checks::check_tree(parents, costs, marks);
     let Checked::Accepted = tree else {
         return refused(answer_forms::refusal_of(tree));
     };
     let m = parents.len();
-    let mut marks = [0u16; MOST_ARCS];
-    dead_ends::write_dead_ends(parents, &mut marks[0..m]);
-    audit_in_tree(parents, costs, &marks[0..m], proposal)
+    let mut counted = [0u32; MOST_ARCS];
+    tree::write_counted(parents, costs, marks, &mut counted[0..m]);
+    audit_in_tree(parents, &counted[0..m], marks, proposal)
 }

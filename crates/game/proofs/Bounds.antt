@@ -14,6 +14,7 @@ use Rattle.game.specs.Group.{byNumber}
 use Rattle.game.specs.Core.{users, others, bound, onlyTheirs, IsArc}
 use Rattle.basics.proofs.Bools.{both, clash, not-so, and-both, and-first, and-second, same-test, pick-mono, pick-zero}
 use Rattle.basics.proofs.Sums.{In, sum-cong, sum-mono, sum-parts}
+use Rattle.game.proofs.Counted.{UnusedFree}
 use Rattle.game.proofs.Below.{Rooted, below-trans, below-cases, below-comparable, below-le, below-self}
 use Rattle.game.proofs.Groups.{UsedBy, used-of, used-by}
 use Rattle.game.proofs.Numbering.{member-at}
@@ -26,11 +27,7 @@ pub record OtherUser (n : Network) (k : ℕ) : Type 0 where
   pub uses-parent : user n (n .parent k) who ≡ true
   pub not-below : atOrBelow n k who ≡ false
 
--- an arc that nobody uses costs nothing
-abbrev pub UnusedFree : Network → Type 0
-UnusedFree n = (e : ℕ) → In (n .arcs) e → used n everyone e ≡ false → n .cost e ≡ 0
-
--- so two tests that agree on a used arc pick the same of its cost
+-- where an arc that nobody uses costs nothing, two tests that agree on a used arc pick the same of its cost
 pub used-pick : (n : Network) → UnusedFree n → (e : ℕ) → In (n .arcs) e
     → (a b : Bool) → (used n everyone e ≡ true → a ≡ b) → pick a (n .cost e) ≡ pick b (n .cost e)
 used-pick n unused-free e i a b agree =

@@ -1,30 +1,32 @@
--- Where the members are the dead ends every arc has a user, so the counted costs are the costs.
+-- Where the members are the dead ends every arc has a user.
 use Prim.Native.Nat.{ℕ, zero, suc, _+_, _≤_}
-use mathlib.Core.Path.{_≡_, refl, sym, ap, _∙_}
+use mathlib.Core.Path.{_≡_, refl, ap, _∙_}
 use mathlib.Core.Bool.{Bool, true, false, not}
 use mathlib.Core.Logic.{_⊎_, inl, inr, ⊎-elim}
 use mathlib.Core.List.{List}
-use lib.ListN.{length, List·getD-eq-default}
-use native.Mathlib.Decide.{decLt}
+use lib.ListN.{length}
 use native.Mathlib.Omega.{arith}
-use borrow.Author.Tests.{eqb-true, not-true}
+use borrow.Author.Tests.{eqb-true}
 use lib.Dec.{eqb}
 use Rattle.basics.specs.Sum.{pick}
-use Rattle.game.specs.Network.{Network, used, everyone, wholeCost, groupCost}
-use Rattle.game.proofs.Counted.{counted, atCounted}
+use Rattle.game.specs.Network.{Network, used, everyone}
 use Rattle.game.specs.Tree.{ofArc, hasChild, marked, deadEnds, networkOf}
-use Rattle.basics.proofs.Bools.{both, clash, and-both, pick-yes, pick-no}
+use Rattle.basics.proofs.Bools.{both, and-both}
 use Rattle.basics.proofs.Lists.{list-length}
 use Rattle.game.proofs.ArcEntries.{of-list}
-use Rattle.basics.proofs.Sums.{In, Some, some-is, sum-cong}
+use Rattle.basics.proofs.Sums.{In, Some, some-is}
 use Rattle.game.proofs.Below.{Rooted, below-self, child-after}
-use Rattle.game.proofs.Groups.{used-of, used-child, everyone-cost}
+use Rattle.game.proofs.Groups.{used-of, used-child}
 
 -- every vertex from 1 on is a member or has a child
 abbrev pub Ends : Network → Type 0
 Ends n = (k : ℕ) → In (n .arcs) k → (n .member k ≡ true) ⊎ Some (n .arcs) (λ u. eqb (n .parent u) k)
 
 module _ (ps : List ℕ) where
+  pub dead-ends-length : length (deadEnds ps) ≡ length ps
+  unfolding deadEnds
+  dead-ends-length = list-length (λ v. pick (not (hasChild ps v)) 1) (length ps)
+
   -- the dead ends are marked
   pub dead-end : (v : ℕ) → In (length ps) v → marked (deadEnds ps) v ≡ not (hasChild ps v)
   unfolding deadEnds
@@ -35,20 +37,6 @@ module _ (ps : List ℕ) where
       ones : (b : Bool) → eqb (pick b 1) 1 ≡ b
       ones true = refl
       ones false = refl
-
-  -- and nothing else is
-  pub no-child : (v : ℕ) → marked (deadEnds ps) v ≡ true → hasChild ps v ≡ false
-  unfolding deadEnds
-  no-child zero m = absurd (clash m refl)
-  no-child (suc i) m =
-      elim (decLt i (length ps)) [
-        | yes h ↦ not-true (hasChild ps (suc i)) (sym (dead-end (suc i) (omega arith)) ∙ m)
-        | no h ↦ absurd
-            (clash m
-            (ap (λ (x : ℕ). eqb x 1)
-            (List·getD-eq-default (deadEnds ps) 0 {n = i}
-            (omega (arith, list-length (λ v. pick (not (hasChild ps v)) 1) (length ps))))))
-      ]
 
   pub dead-ends : (cs : List ℕ) → Ends (networkOf ps cs (deadEnds ps))
   unfolding hasChild
@@ -86,17 +74,3 @@ module _ (n : Network) (rooted : Rooted n) (ends : Ends n) where
 
   pub every-arc-used : (k : ℕ) → In (n .arcs) k → used n everyone k ≡ true
   every-arc-used k i = used-within (n .arcs) k i (omega arith)
-
-  counted-cost : (k : ℕ) → In (n .arcs) k → counted n k ≡ n .cost k
-  counted-cost k i = pick-yes (n .cost k) (every-arc-used k i)
-
-  counted-whole : wholeCost (atCounted n) ≡ wholeCost n
-  unfolding wholeCost
-  counted-whole = sum-cong (n .arcs) counted-cost
-
-  -- no cost of an arc that nobody uses is in the sum of all costs
-  pub unused-free : (k : ℕ) → In (n .arcs) k → used n everyone k ≡ false → n .cost k ≡ 0
-  unused-free k i u = sym (counted-cost k i) ∙ pick-no (n .cost k) u
-
-  pub everyone-pays-whole : groupCost n everyone ≡ wholeCost n
-  everyone-pays-whole = everyone-cost n ∙ counted-whole

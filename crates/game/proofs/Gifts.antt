@@ -1,9 +1,9 @@
 -- The by-arc rule's gifts divide an arc's cost evenly.
 use Prim.Native.Nat.{ℕ, zero, suc, _/_, _%_, _<_, min}
-use mathlib.Core.Path.{_≡_, _∙_}
+use mathlib.Core.Path.{_≡_, sym, _∙_}
 use mathlib.Core.Bool.{Bool, true, false}
-use mathlib.Core.Logic.{⊎-elim}
-use native.Mathlib.Nat.{div-add-mod, mod-lt}
+use mathlib.Core.Logic.{_⊎_, inl, inr, ⊎-elim}
+use native.Mathlib.Nat.{div-add-mod, mod-lt, zero-div, zero-mod}
 use native.Mathlib.Decide.{decLt}
 use native.Mathlib.Omega.{arith}
 use borrow.Author.Tests.{lt-ltb, le-ltb}
@@ -13,8 +13,8 @@ use Rattle.game.specs.Network.{Network, memberCount}
 use Rattle.game.specs.Core.{users}
 use Rattle.game.specs.ByArc.{userCount, gift}
 use Rattle.game.specs.Shapley.{Even}
-use Rattle.basics.proofs.Bools.{both, pick-yes, pick-no, pick-add, pick-le}
-use Rattle.basics.proofs.Sums.{sum₀-cong, sum₀-add}
+use Rattle.basics.proofs.Bools.{both, pick-yes, pick-no, pick-add, pick-le, pick-zero}
+use Rattle.basics.proofs.Sums.{sum₀-cong, sum₀-add, sum₀-zero}
 use Rattle.basics.proofs.Sizes.{size-more, size-times, size-none}
 
 -- one unit to each of the r lowest numbers of a group
@@ -44,13 +44,14 @@ lowest-sum (suc n) r a =
     (arith, lowest-sum n r a, size-more n a, pick-no 1 e, pick-no (pick (ltb (size n a) r) 1) e))
     (both (a n))
 
-pub gift-even : (n : Network) (k : ℕ) → 0 < userCount n k → Even n k (gift n k)
-gift-even n k h =
+-- an arc with users, or without a cost
+pub gift-even : (n : Network) (k : ℕ) → (0 < userCount n k) ⊎ (n .cost k ≡ 0) → Even n k (gift n k)
+gift-even n k some =
     record {
       others = λ j e. rw e;
       least = λ j e. rw e (omega arith);
       most = λ j e. rw e (omega (arith, pick-le (more j) 1));
-      all = together;
+      all = together some;
     }
   where
     q : ℕ
@@ -59,8 +60,12 @@ gift-even n k h =
     more : ℕ → Bool
     more j = ltb (size j (users n k)) (n .cost k % userCount n k)
 
-    together : sum₀ (memberCount n) (gift n k) ≡ n .cost k
-    together =
+    together : (0 < userCount n k) ⊎ (n .cost k ≡ 0) → sum₀ (memberCount n) (gift n k) ≡ n .cost k
+    together (inr free) =
+        sum₀-zero (memberCount n)
+        (λ j h. rw (free, zero-div, zero-mod, le-ltb (size j (users n k)) 0 (omega arith)) (pick-zero (users n k j)))
+        ∙ sym free
+    together (inl h) =
         sum₀-cong (memberCount n) (λ j l. pick-add (users n k j) q (pick (more j) 1))
         ∙ sum₀-add (memberCount n) (λ j. pick (users n k j) q) (λ j. pick (users n k j) (pick (more j) 1))
         ∙ omega (

@@ -2,7 +2,7 @@
 --
 --   used-of, used-by              an arc is used, with the member `UsedBy` that uses it
 --   used-child, used-children     from the children up
---   empty-cost, everyone-cost     nobody and everyone
+--   empty-cost                    nobody
 --   cost-mono, submodular         a larger group; inequality (2) of the paper
 --   below-child, child-below      children and what is below
 use Prim.Native.Nat.{ℕ, zero, suc, _+_, _≤_}
@@ -13,8 +13,7 @@ use native.Mathlib.Omega.{arith}
 use borrow.Author.Tests.{eqb-true, eq-eqb}
 use lib.Dec.{eqb}
 use Rattle.basics.specs.Sum.{pick, some}
-use Rattle.game.specs.Network.{Network, atOrBelow, user, used, groupCost, everyone, wholeCost}
-use Rattle.game.proofs.Counted.{atCounted}
+use Rattle.game.specs.Network.{Network, atOrBelow, user, used, groupCost}
 use Rattle.basics.proofs.Bools.{both, clash, not-so, and-both, and-first, and-second, or-first, or-second, or-cases}
 use Rattle.basics.proofs.Bools.{same-test, pick-no, pick-mono, pick-two}
 use Rattle.basics.proofs.Sums.{In, Some, some-of, some-is, sum-mono, sum-zero, sum-add}
@@ -55,10 +54,6 @@ module _ (n : Network) where
       sum-zero (n .arcs)
       (λ k i. pick-no (n .cost k)
       (not-so (used n (λ v. false) k) (λ u. clash {b = false} (used-by (λ v. false) k u .chosen) refl)))
-
-  pub everyone-cost : groupCost n everyone ≡ wholeCost (atCounted n)
-  unfolding groupCost wholeCost
-  everyone-cost = refl
 
   pub cost-mono : (g h : ℕ → Bool) → ((v : ℕ) → g v ≡ true → h v ≡ true) → groupCost n g ≤ groupCost n h
   unfolding groupCost

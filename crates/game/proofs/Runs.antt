@@ -14,10 +14,11 @@ use Rattle.game.specs.Core.{others, bound, onlyTheirs}
 use Rattle.basics.proofs.Bools.{both, clash, and-both, and-first, and-second, or-first, or-second, or-cases}
 use Rattle.basics.proofs.Bools.{same-test, pick-either}
 use Rattle.basics.proofs.Sums.{In, sum-cong, sum-add, sum-at}
+use Rattle.game.proofs.Counted.{UnusedFree}
 use Rattle.game.proofs.Below.{Rooted, child-after, below-trans, below-comparable, below-le, below-self}
 use Rattle.game.proofs.Groups.{used-by, child-below}
 use Rattle.game.proofs.Overpayment.{cost-same}
-use Rattle.game.proofs.Bounds.{UnusedFree, used-pick, users-at, bound-is-only-theirs, need-le-only, above-parent}
+use Rattle.game.proofs.Bounds.{used-pick, users-at, bound-is-only-theirs, need-le-only, above-parent}
 
 -- an unbranched run goes on from k's parent to k: every user of the parent's arc uses k
 pub record Run (n : Network) (k : ℕ) : Type 0 where

@@ -2,13 +2,20 @@
 use Prim.Native.Nat.{ℕ}
 use mathlib.Core.Path.{_≡_, refl, sym, ap, _∙_}
 use native.Mathlib.Omega.{arith}
+use borrow.Author.Tests.{eq-eqb}
+use mathlib.Core.Bool.{Bool, not}
+use mathlib.Core.List.{List}
+use lib.ListN.{length}
 use lib.IntN.{ℤ}
 use Rattle.basics.specs.Sum.{entries}
 use Rattle.game.specs.Network.{memberCount}
-use Rattle.game.specs.Tree.{Tree, network}
-use Rattle.answer_forms.specs.Answer.{Check, accepted, refused, answer}
-use Rattle.answers.specs.Checks.{treeCheck}
+use Rattle.game.specs.Tree.{Tree, network, deadEndTree}
+use Rattle.answer_forms.specs.Answer.{Check, accepted, refused, fault, answer}
+use Rattle.answer_forms.proofs.Composed.{then-nothing}
+use Rattle.answers.specs.Checks.{treeCheck, plainCheck}
 use Rattle.answers.specs.Members.{memberCountAnswer}
+use Rattle.answers.specs.DeadEnds.{deadEndsAnswer}
+use Rattle.answers.proofs.DeadEnds.{plain-check}
 use Rattle.answer_forms.specs.declared.Refusal.{Refusal}
 use Rattle.engine.specs.Outcomes.{memberCountOf}
 use Rattle.engine.specs.declared.members.MemberCount.{MemberCount}
@@ -26,6 +33,15 @@ found-by (refused number place) (NoMembers r) n e = cc
 counted-by : (check : Check) (m n : ℕ) → memberCountOf (Members m) ≡ answer check n → m ≡ n
 counted-by accepted m n e = cc
 counted-by (refused number place) m n e = absurd (let z : _≡_ {A = ℕ} 0 1 = cc in omega arith)
+
+-- the dead ends marked in a list of the right length: the answer is that of the tree with these marks
+pub dead-ends-counted : (ps cs out : List ℕ) → length out ≡ length ps
+    → deadEndsAnswer ps cs out ≡ memberCountAnswer (deadEndTree ps cs)
+unfolding deadEndsAnswer memberCountAnswer
+dead-ends-counted ps cs out sized =
+    ap (λ (c : Check). answer c (memberCount (network (deadEndTree ps cs))))
+    (then-nothing (plainCheck ps cs) (ap (λ (b : Bool). fault (not b) 8 0) (eq-eqb (length out) (length ps) sized))
+    ∙ sym (plain-check ps cs))
 
 module _ (count : MemberCount) (t : Tree) (is : memberCountOf count ≡ memberCountAnswer t) where
   pub tree-is : treeFound count ≡ treeCheck t

@@ -5,16 +5,16 @@ use mathlib.Core.List.{List}
 use lib.IntN.{ℤ}
 use lib.Dec.{eqb}
 use Rattle.game.specs.Network.{memberCount}
-use Rattle.game.specs.Tree.{Tree, treeOf, network}
+use Rattle.game.specs.Tree.{Tree, network, deadEndTree}
 use Rattle.answer_forms.specs.Answer.{Check, fault, _then_}
 use Rattle.answers.specs.Checks.{treeCheck, proposalCheck}
 use Rattle.answers.specs.Level.{capsCheck}
 use Rattle.job_bytes.specs.Format.{jobMembers, jobParents, jobCosts, jobCaps, jobProposals}
 use Rattle.job_form.specs.Form.{formCheck, fillersCheck}
 
--- the tree that the arc rows hold, and its number of members
+-- the tree that the arc rows hold, with every dead end marked, and its number of members
 abbrev pub jobTree : List ℕ → Tree
-jobTree bytes = treeOf (jobParents bytes) (jobCosts bytes)
+jobTree bytes = deadEndTree (jobParents bytes) (jobCosts bytes)
 
 abbrev pub treeMembers : List ℕ → ℕ
 treeMembers bytes = memberCount (network (jobTree bytes))
@@ -31,7 +31,8 @@ sharesOf members caps proposals = capsCheck members caps then proposalCheck memb
 unfoldable pub sharesCheck : List ℕ → Check
 sharesCheck bytes = sharesOf (treeMembers bytes) (jobCaps bytes) (jobProposals bytes)
 
--- 1, 3 and 4 (2 does not occur: a row holds a parent and a cost), 15, then 7
+-- 1, 3 and 4 (2 does not occur: a row holds a parent and a cost; nor do 16 to 18, where the dead ends are marked), 15,
+-- then 7
 unfoldable pub valuesCheck : List ℕ → Check
 valuesCheck bytes = treeCheck (jobTree bytes) then countCheck bytes then sharesCheck bytes
 

@@ -4,7 +4,7 @@ use mathlib.Core.Path.{_≡_}
 use mathlib.Core.List.{List}
 use lib.ListN.{take}
 use Rattle.game.specs.Network.{memberCount}
-use Rattle.game.specs.Tree.{Tree, treeOf, network}
+use Rattle.game.specs.Tree.{Tree, network, deadEndTree}
 use Rattle.answer_forms.specs.Answer.{accepted, value}
 use Rattle.answers.specs.Checks.{treeCheck, proposalCheck}
 use Rattle.answers.specs.Level.{capsCheck}
@@ -13,9 +13,9 @@ use Rattle.job_bytes.specs.Format.{Alike}
 use Rattle.job.specs.JobCheck.{jobCheck}
 use Rattle.job.specs.Reader.{Lent, JobValue, jobAnswer, jobLists}
 
--- the tree in the front of the lists
+-- the tree in the front of the lists, with every dead end marked
 abbrev pub frontTree : ℕ → Lent → Tree
-frontTree arcs l = treeOf (take arcs (l .parents)) (take arcs (l .costs))
+frontTree arcs l = deadEndTree (take arcs (l .parents)) (take arcs (l .costs))
 
 -- the engine's checks find nothing in the front of the lists
 pub record Usable (v : JobValue) (l : Lent) : Type 0 where

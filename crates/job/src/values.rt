@@ -9,7 +9,7 @@ ghost use Prim.Native.Nat.{_+_, _*_, _≤_};
 ghost use lib.ListN.{length};
 ghost use lib.Dec.{eqb};
 ghost use Rattle.basics.specs.Sum.{entries};
-ghost use Rattle.game.specs.Tree.{treeOf};
+ghost use Rattle.game.specs.Tree.{deadEndTree};
 ghost use Rattle.answer_forms.specs.Answer.{fault};
 ghost use Rattle.answers.specs.Members.{memberCountAnswer};
 ghost use Rattle.answer_forms.specs.Checked.{checkOf};
@@ -24,12 +24,12 @@ const MOST_ARC_ROWS: usize = 3100;
 
 const MOST_MEMBER_ROWS: usize = 1550;
 
-// The members of the tree in the arc rows at an offset.
+// The members of the tree in the arc rows at an offset: a job of version 1 marks every dead end.
 fn count_members(bytes: &[u8], offset: usize, arcs: usize) -> MemberCount
     requires { ⌜ offset + 8 * arcs ≤ length (now bytes) ⌝ }
     requires { ⌜ arcs ≤ 3100 ⌝ }
     ensures { λ r. ⌜ memberCountOf r
-        ≡ memberCountAnswer (treeOf
+        ≡ memberCountAnswer (deadEndTree
         (entries arcs (parentAt (now (bytes .entry)) offset))
         (entries arcs (costAt (now (bytes .entry)) offset))) ⌝ }
 {
@@ -37,7 +37,8 @@ fn count_members(bytes: &[u8], offset: usize, arcs: usize) -> MemberCount
     let mut costs = [0u32; MOST_ARC_ROWS];
     job_bytes::read_parents(bytes, offset, arcs, &mut parents);
     job_bytes::read_costs(bytes, offset, arcs, &mut costs);
-    engine::count_members(&parents[0..arcs], &costs[0..arcs])
+    let mut marks = [0u16; MOST_ARC_ROWS];
+    engine::mark_dead_ends(&parents[0..arcs], &costs[0..arcs], &mut marks[0..arcs])
 }
 
 // What the tree's check found.

@@ -1,4 +1,3 @@
-pub mod Composed
 mod Rows
 pub mod FormAccepted
 pub mod SameJob

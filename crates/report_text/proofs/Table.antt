@@ -1,7 +1,7 @@
 -- The table, by evaluation.
 use mathlib.Core.Path.{refl}
 use Rattle.game.specs.Network.{climb, used, groupCost, sumBelow, wholeCost, membersTo}
-use Rattle.game.specs.Tree.{hasChild, deadEnds}
+use Rattle.game.specs.Tree.{hasChild, deadEnds, countedCosts}
 use Rattle.basics.specs.Bit.{bit}
 use Rattle.basics.specs.Sum.{size, entries}
 use Rattle.game.specs.Group.{wordsOf}
@@ -9,7 +9,7 @@ use Rattle.game.specs.Proposal.{pays}
 use Rattle.game.specs.Search.{groups, best, named}
 use Rattle.game.specs.Level.{firstLeast, units, arcsDown}
 use Rattle.game.specs.ByArc.{giveArc, byArcDown}
-use Rattle.answers.specs.Checks.{arcsCheck, treeCheck, rangeCheck}
+use Rattle.answers.specs.Checks.{arcByArc, treeCheck, rangeCheck}
 use Rattle.answers.specs.Audit.{verdict, auditAnswer, auditWords}
 use Rattle.answers.specs.Level.{shortArc, levelAnswer, levelList}
 use Rattle.answers.specs.ByArc.{byArcList}
@@ -24,8 +24,9 @@ use Rattle.report_text.specs.Report.{treeText, splitText, reportText}
 use Rattle.report_text.specs.Table.{ReportTable}
 
 pub table : ReportTable
-unfolding climb used groupCost sumBelow wholeCost membersTo hasChild deadEnds bit size wordsOf pays groups best named
-    firstLeast units arcsDown giveArc byArcDown arcsCheck treeCheck rangeCheck verdict auditAnswer auditWords
+unfolding climb used groupCost sumBelow wholeCost membersTo hasChild deadEnds countedCosts bit size wordsOf
+    pays groups best named
+    firstLeast units arcsDown giveArc byArcDown arcByArc treeCheck rangeCheck verdict auditAnswer auditWords
     shortArc levelAnswer levelList byArcList littleEndian signed64 entries arcOffset memberOffset jobArcs
     jobMembers version formCheck fillersFrom sharesCheck valuesCheck jobCheck decimalIn decimal signedDecimal
     groupText memberLines treeText splitText reportText

@@ -8,41 +8,56 @@ ghost use mathlib.Core.Path.{_≡_};
 ghost use Prim.Native.Nat.{_+_, _*_, _≤_};
 ghost use lib.ListN.{length};
 ghost use Rattle.game.specs.Network.{memberCount};
-ghost use Rattle.game.specs.Tree.{treeOf, network};
+ghost use Rattle.game.specs.Tree.{treeOf, network, deadEndTree};
 ghost use Rattle.answer_forms.specs.Answer.{accepted};
 ghost use Rattle.answers.specs.Checks.{treeCheck};
 ghost use Rattle.text.specs.Put.{Put};
 ghost use Rattle.report_text.specs.Report.{blank, costText, treeText, splitText, jobText};
 
 // `needs` is room for one entry an arc.
-fn put_cost(parents: &[u16], costs: &[u32], needs: &mut [u64], out: &mut [u8], at: usize) -> usize
-    requires { ⌜ treeCheck (treeOf (now parents) (now costs)) ≡ accepted ⌝ }
+fn put_cost(
+    parents: &[u16],
+    costs: &[u32],
+    marks: &[u16],
+    needs: &mut [u64],
+    out: &mut [u8],
+    at: usize,
+) -> usize
+    requires { ⌜ treeCheck (treeOf (now parents) (now costs) (now marks)) ≡ accepted ⌝ }
     requires { ⌜ length (now needs) ≡ length (now parents) ⌝ }
     requires { ⌜ at + 100 ≤ length (now out) ⌝ }
     ensures { λ r. ⌜ Put (now (out .entry)) at
-        (costText (treeOf (now (parents .entry)) (now (costs .entry)))) (now (out .exit)) r ⌝ }
+        (costText (treeOf (now (parents .entry)) (now (costs .entry)) (now (marks .entry)))) (now (out .exit)) r ⌝ }
     ensures { λ r. ⌜ r ≤ at + 100 ⌝ }
 {
-    put_needs(out, at, engine::list_needs(parents, costs, needs))
+    put_needs(out, at, engine::list_needs(parents, costs, marks, needs))
 }
 
 // The lines on the tree and the proposal.
-fn put_tree(parents: &[u16], costs: &[u32], proposed: &[i64], out: &mut [u8], at: usize) -> usize
-    requires { ⌜ treeCheck (treeOf (now parents) (now costs)) ≡ accepted ⌝ }
-    requires { ⌜ length (now proposed) ≡ memberCount (network (treeOf (now parents) (now costs))) ⌝ }
+fn put_tree(
+    parents: &[u16],
+    costs: &[u32],
+    marks: &[u16],
+    proposed: &[i64],
+    out: &mut [u8],
+    at: usize,
+) -> usize
+    requires { ⌜ treeCheck (treeOf (now parents) (now costs) (now marks)) ≡ accepted ⌝ }
+    requires { ⌜ length (now proposed) ≡ memberCount (network (treeOf (now parents) (now costs) (now marks))) ⌝ }
     requires { ⌜ at + 22100 ≤ length (now out) ⌝ }
     ensures { λ r. ⌜ Put (now (out .entry)) at
-        (treeText (treeOf (now (parents .entry)) (now (costs .entry))) (now (proposed .entry))) (now (out .exit)) r ⌝ }
+        (treeText (treeOf (now (parents .entry)) (now (costs .entry)) (now (marks .entry))) (now (proposed .entry)))
+        (now (out .exit)) r ⌝ }
     ensures { λ r. ⌜ r ≤ at + 22100 ⌝ }
 {
     let mut needs = [0u64; MOST_ARCS];
     let arcs = parents.len();
-    let next = put_cost(parents, costs, &mut needs[0..arcs], out, at);
+    let next = put_cost(parents, costs, marks, &mut needs[0..arcs], out, at);
     put_audit(
         out,
         next,
         proposed.len(),
-        engine::audit(parents, costs, proposed),
+        engine::audit(parents, costs, marks, proposed),
     )
 }
 
@@ -50,6 +65,7 @@ fn put_tree(parents: &[u16], costs: &[u32], proposed: &[i64], out: &mut [u8], at
 fn put_splits(
     parents: &[u16],
     costs: &[u32],
+    marks: &[u16],
     caps: &[u64],
     proposed: &[i64],
     vertices: &mut [u16],
@@ -58,46 +74,48 @@ fn put_splits(
     out: &mut [u8],
     at: usize,
 ) -> usize
-    requires { ⌜ treeCheck (treeOf (now parents) (now costs)) ≡ accepted ⌝ }
-    requires { ⌜ length (now proposed) ≡ memberCount (network (treeOf (now parents) (now costs))) ⌝ }
-    requires { ⌜ now vertices ≡ blank (treeOf (now parents) (now costs)) ⌝ }
-    requires { ⌜ now «by_arc» ≡ blank (treeOf (now parents) (now costs)) ⌝ }
-    requires { ⌜ now shares ≡ blank (treeOf (now parents) (now costs)) ⌝ }
+    requires { ⌜ treeCheck (treeOf (now parents) (now costs) (now marks)) ≡ accepted ⌝ }
+    requires { ⌜ length (now proposed) ≡ memberCount (network (treeOf (now parents) (now costs) (now marks))) ⌝ }
+    requires { ⌜ now vertices ≡ blank (treeOf (now parents) (now costs) (now marks)) ⌝ }
+    requires { ⌜ now «by_arc» ≡ blank (treeOf (now parents) (now costs) (now marks)) ⌝ }
+    requires { ⌜ now shares ≡ blank (treeOf (now parents) (now costs) (now marks)) ⌝ }
     requires { ⌜ at + 100 + 150 * length (now proposed) ≤ length (now out) ⌝ }
     ensures { λ r. ⌜ Put (now (out .entry)) at
-        (splitText (treeOf (now (parents .entry)) (now (costs .entry))) (now (caps .entry)) (now (proposed .entry)))
-        (now (out .exit)) r ⌝ }
+        (splitText (treeOf (now (parents .entry)) (now (costs .entry)) (now (marks .entry))) (now (caps .entry))
+        (now (proposed .entry))) (now (out .exit)) r ⌝ }
 {
-    engine::list_members(parents, costs, vertices);
-    engine::split_by_arc(parents, costs, by_arc);
-    let level = engine::split_level(parents, costs, caps, shares);
+    engine::list_members(parents, costs, marks, vertices);
+    engine::split_by_arc(parents, costs, marks, by_arc);
+    let level = engine::split_level(parents, costs, marks, caps, shares);
     let next = put_level(out, at, level);
     put_members(out, next, level, vertices, proposed, by_arc, shares)
 }
 
-// The lists are those of a job that was read.
-pub fn put_job(
+// All lines, by the members' marks.
+fn put_marked(
     parents: &[u16],
     costs: &[u32],
+    marks: &[u16],
     caps: &[u64],
     proposed: &[i64],
     out: &mut [u8],
 ) -> usize
-    requires { ⌜ treeCheck (treeOf (now parents) (now costs)) ≡ accepted ⌝ }
-    requires { ⌜ length (now proposed) ≡ memberCount (network (treeOf (now parents) (now costs))) ⌝ }
+    requires { ⌜ treeCheck (treeOf (now parents) (now costs) (now marks)) ≡ accepted ⌝ }
+    requires { ⌜ length (now proposed) ≡ memberCount (network (treeOf (now parents) (now costs) (now marks))) ⌝ }
     requires { ⌜ 190000 ≤ length (now out) ⌝ }
     ensures { λ r. ⌜ Put (now (out .entry)) 0
-        (jobText (treeOf (now (parents .entry)) (now (costs .entry))) (now (caps .entry)) (now (proposed .entry)))
-        (now (out .exit)) r ⌝ }
+        (jobText (treeOf (now (parents .entry)) (now (costs .entry)) (now (marks .entry))) (now (caps .entry))
+        (now (proposed .entry))) (now (out .exit)) r ⌝ }
 {
     let members = proposed.len();
     let mut vertices = [0u16; MOST_ARCS];
     let mut by_arc = [0u64; MOST_ARCS];
     let mut shares = [0u64; MOST_ARCS];
-    let next = put_tree(parents, costs, proposed, out, 0);
+    let next = put_tree(parents, costs, marks, proposed, out, 0);
     put_splits(
         parents,
         costs,
+        marks,
         caps,
         proposed,
         &mut vertices[0..members],
@@ -106,4 +124,25 @@ pub fn put_job(
         out,
         next,
     )
+}
+
+// The lists are those of a job that was read; its members are the dead ends.
+pub fn put_job(
+    parents: &[u16],
+    costs: &[u32],
+    caps: &[u64],
+    proposed: &[i64],
+    out: &mut [u8],
+) -> usize
+    requires { ⌜ treeCheck (deadEndTree (now parents) (now costs)) ≡ accepted ⌝ }
+    requires { ⌜ length (now proposed) ≡ memberCount (network (deadEndTree (now parents) (now costs))) ⌝ }
+    requires { ⌜ 190000 ≤ length (now out) ⌝ }
+    ensures { λ r. ⌜ Put (now (out .entry)) 0
+        (jobText (deadEndTree (now (parents .entry)) (now (costs .entry))) (now (caps .entry))
+        (now (proposed .entry))) (now (out .exit)) r ⌝ }
+{
+    let arcs = parents.len();
+    let mut marks = [0u16; MOST_ARCS];
+    engine::mark_dead_ends(parents, costs, &mut marks[0..arcs]);
+    put_marked(parents, costs, &marks[0..arcs], caps, proposed, out)
 }

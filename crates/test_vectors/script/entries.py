@@ -1,6 +1,10 @@
-"""What the program prints of each entry. A case is a tuple: the command, then its fields, each a list, a number or bytes."""
+"""What the program prints of each entry.
+
+A case is a tuple: the command, then its fields, each a tree, a list, a number or bytes.
+"""
 from rules import (
     Refusal,
+    Tree,
     WORDS,
     arc_needs,
     best_group,
@@ -9,9 +13,13 @@ from rules import (
     check_output,
     check_proposal,
     check_tree,
+    check_unmarked,
+    dead_end_marks,
     group_cost,
+    member_count,
     member_vertices,
     ones,
+    whole_cost,
     words_of,
 )
 from by_arc import by_arc_split
@@ -21,45 +29,52 @@ from level import level_split
 UNTOUCHED = 9
 
 
-def answer_check(parents, costs):
-    check_tree(parents, costs)
+def answer_check(tree):
+    check_tree(tree)
     return "accepted"
 
 
-def answer_count(parents, costs):
-    check_tree(parents, costs)
-    return f"members {len(member_vertices(parents))}"
+def answer_count(tree):
+    check_tree(tree)
+    return f"members {member_count(tree)}"
 
 
-def answer_members(parents, costs, out):
-    check_tree(parents, costs)
-    vertices = member_vertices(parents)
+def answer_members(tree, out):
+    check_tree(tree)
+    vertices = member_vertices(tree)
     check_output(out, len(vertices))
     out[:] = vertices
     return f"members {len(vertices)}"
 
 
-def answer_needs(parents, costs, out):
-    check_tree(parents, costs)
+def answer_dead_ends(parents, costs, out):
+    check_unmarked(parents, costs)
     check_output(out, len(parents))
-    out[:] = arc_needs(parents, costs)
-    return f"whole {sum(costs)} members {len(member_vertices(parents))}"
+    out[:] = dead_end_marks(parents)
+    return f"members {sum(out)}"
 
 
-def answer_group(parents, costs, words):
-    check_tree(parents, costs)
-    check_group(words, len(member_vertices(parents)))
+def answer_needs(tree, out):
+    check_tree(tree)
+    check_output(out, len(tree.parents))
+    out[:] = arc_needs(tree)
+    return f"whole {whole_cost(tree)} members {member_count(tree)}"
+
+
+def answer_group(tree, words):
+    check_tree(tree)
+    check_group(words, member_count(tree))
     inside = ones(words)
-    return f"size {len(inside)} cost {group_cost(parents, costs, inside)}"
+    return f"size {len(inside)} cost {group_cost(tree, inside)}"
 
 
-def answer_audit(parents, costs, proposal, words):
-    check_tree(parents, costs)
-    check_proposal(len(member_vertices(parents)), proposal)
-    difference = sum(proposal) - sum(costs)
+def answer_audit(tree, proposal, words):
+    check_tree(tree)
+    check_proposal(member_count(tree), proposal)
+    difference = sum(proposal) - whole_cost(tree)
     if difference != 0:
         return f"total {difference}"
-    over, group = best_group(parents, costs, proposal)
+    over, group = best_group(tree, proposal)
     if over == 0:
         return "pass"
     words[:] = words_of(group)
@@ -71,20 +86,20 @@ def answer_shares(count, proposal):
     return "accepted"
 
 
-def answer_level(parents, costs, caps, out):
-    check_tree(parents, costs)
-    count = len(member_vertices(parents))
+def answer_level(tree, caps, out):
+    check_tree(tree)
+    count = member_count(tree)
     check_caps(count, caps)
     check_output(out, count)
-    out[:] = level_split(parents, costs, caps)
+    out[:] = level_split(tree, caps)
     return f"split {count}"
 
 
-def answer_by_arc(parents, costs, out):
-    check_tree(parents, costs)
-    count = len(member_vertices(parents))
+def answer_by_arc(tree, out):
+    check_tree(tree)
+    count = member_count(tree)
     check_output(out, count)
-    out[:] = by_arc_split(parents, costs)
+    out[:] = by_arc_split(tree)
     return f"members {count}"
 
 
@@ -104,10 +119,11 @@ ENTRIES = {
     "level": answer_level,
     "caps": answer_caps,
     "byarc": answer_by_arc,
+    "deadends": answer_dead_ends,
 }
 
 # the commands whose last field is the length of an output list
-WRITING = {"members", "needs", "level", "byarc"}
+WRITING = {"members", "needs", "level", "byarc", "deadends"}
 
 
 def shown(field):
@@ -115,6 +131,8 @@ def shown(field):
         return str(field)
     if isinstance(field, bytes):
         return field.hex() or "-"
+    if isinstance(field, Tree):
+        return " ".join(map(shown, field))
     return ",".join(map(str, field)) or "-"
 
 

@@ -1,5 +1,5 @@
 """The job bytes (specification, §8) and their reader, with no call of the engine."""
-from rules import MOST_ARCS, Refusal, check_caps, check_proposal, check_tree, member_vertices
+from rules import MOST_ARCS, Refusal, all_marked, check_caps, check_proposal, check_tree, member_count
 
 ARC_ROW, MEMBER_ROW, TRAILER = 8, 16, 16
 MOST_NOTE = 255
@@ -47,15 +47,15 @@ def read_job(data, parents, costs, caps, proposals):
     note, arcs, rows, members = read_trailer(data)
     check_fillers(data, note, arcs)
     arc_rows = [note + ARC_ROW * k for k in range(arcs)]
-    tree = [number(data, at, 2) for at in arc_rows], [number(data, at + 4, 4) for at in arc_rows]
-    check_tree(*tree)
-    if members != len(member_vertices(tree[0])):
+    tree = all_marked([number(data, at, 2) for at in arc_rows], [number(data, at + 4, 4) for at in arc_rows])
+    check_tree(tree)
+    if members != member_count(tree):
         raise Refusal(15)
     member_rows = [rows + MEMBER_ROW * j for j in range(members)]
     held_caps = [number(data, at, 8) for at in member_rows]
     check_caps(members, held_caps)
     held_proposals = [signed(data, at + 8, 8) for at in member_rows]
     check_proposal(members, held_proposals)
-    parents[:arcs], costs[:arcs] = tree
+    parents[:arcs], costs[:arcs] = tree.parents, tree.costs
     caps[:members], proposals[:members] = held_caps, held_proposals
     return arcs, members, note

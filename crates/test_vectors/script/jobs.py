@@ -2,7 +2,7 @@
 import random
 from struct import pack
 
-from rules import MOST_ARCS, MOST_CAP, MOST_COST, MOST_SHARE, member_vertices
+from rules import MOST_ARCS, MOST_CAP, MOST_COST, MOST_SHARE, all_marked, member_count
 from job import ARC_ROW, CLOSING, MEMBER_ROW, MOST_BYTES, MOST_NOTE, TRAILER, VERSION
 from networks import T, chain, random_caps, random_proposal, random_tree, star
 
@@ -33,7 +33,7 @@ def job(parents, costs, caps, proposals, note=b"", fillers=(), **signature):
 
 def plain(parents, costs, **rest):
     """A job with as many member rows as the tree has members."""
-    count = len(member_vertices(parents))
+    count = member_count(all_marked(parents, costs))
     return job(parents, costs, [100] * count, [j - 1 for j in range(count)], **rest)
 
 
@@ -46,18 +46,19 @@ def read(data, lengths=ENOUGH):
     return "job", lengths, data
 
 
-T_JOB = job(*T, [100, 100, 100], [8, 4, 4])
+T_ARCS = T.parents, T.costs
+T_JOB = job(*T_ARCS, [100, 100, 100], [8, 4, 4])
 
 NOTES = [b"", b"x", bytes(range(255)), b"\xff" * 255]
 
 
 def job_notes():
     for note in NOTES:
-        yield read(plain(*T, note=note))
+        yield read(plain(*T_ARCS, note=note))
         yield read(plain([0], [7], note=note))
     # a note that looks like a job, and one that looks like a trailer
-    yield read(plain(*T, note=T_JOB))
-    yield read(plain(*T, note=T_JOB[-TRAILER:]))
+    yield read(plain(*T_ARCS, note=T_JOB))
+    yield read(plain(*T_ARCS, note=T_JOB[-TRAILER:]))
 
 
 def full_jobs():
@@ -110,12 +111,12 @@ def job_lengths():
 
 def job_signature():
     for version in (0, 2, 255, 256, 257, 2**15, 2**16 - 1):
-        yield read(plain(*T, version=version))
+        yield read(plain(*T_ARCS, version=version))
     for first in (0, 0x4A, 0x53, 0x55, 0x74, 0xD4):
-        yield read(plain(*T, closing=bytes([first, 0x4A])))
+        yield read(plain(*T_ARCS, closing=bytes([first, 0x4A])))
     for last in (0, 0x4B, 0x49, 0x54, 0x6A, 0xCA):
-        yield read(plain(*T, closing=bytes([0x54, last])))
-    yield read(plain(*T, closing=b"JT"))
+        yield read(plain(*T_ARCS, closing=bytes([0x54, last])))
+    yield read(plain(*T_ARCS, closing=b"JT"))
 
 
 def pointing(data, *fields):
@@ -160,7 +161,7 @@ def gaps():
         yield pointing(T_JOB[gap:], 0, 32 - gap, 4, 3)
         yield read(T_JOB + bytes(gap))
     for note in (254, 255, 256, 257):
-        yield read(plain(*T, note=bytes(note)))
+        yield read(plain(*T_ARCS, note=bytes(note)))
         yield read(no_rows(0, note=bytes(note)))
 
 
@@ -168,15 +169,15 @@ def form_order():
     """10 to 13, each with the next one also present."""
     short = [[MOST_ARCS - (place == k) for place in range(4)] for k in range(4)]
     for lent in short:
-        for data in (T_JOB, b"", T_JOB[:15], plain(*T, version=2), plain([1], [1])):
+        for data in (T_JOB, b"", T_JOB[:15], plain(*T_ARCS, version=2), plain([1], [1])):
             yield read(data, lent)
     for data in (T_JOB[-15:], trailer(0, 0, 0, 0)[1:]):
         yield read(data)
     for fields in ((256, 32, 4, 3), (0, 33, 4, 3), (0, 32, 4, 2)):
         yield read(T_JOB[:-TRAILER] + trailer(*fields, version=2))
         yield read(T_JOB[:-TRAILER] + trailer(*fields, closing=b"JT"))
-        yield pointing(plain(*T, fillers={1: 1, 4: 1}), *fields)
-    yield read(plain(*T, note=bytes(256), fillers={1: 1}))
+        yield pointing(plain(*T_ARCS, fillers={1: 1, 4: 1}), *fields)
+    yield read(plain(*T_ARCS, note=bytes(256), fillers={1: 1}))
 
 
 FAULTY = [
@@ -196,17 +197,17 @@ def value_order():
     """14, 3, 4 and 15, each with later ones also present."""
     for arc in range(1, 5):
         for filler in (1, 255, 256, 2**15, 2**16 - 1):
-            yield read(plain(*T, fillers={arc: filler}))
+            yield read(plain(*T_ARCS, fillers={arc: filler}))
         for members in (2, 3):
             outside = [BEYOND_CAP] * members, [LEAST] * members
             yield read(job([1] * 4, [LARGE] * 4, *outside, fillers={arc: 1, 4: 7}))
-            yield read(job(*T, *outside, fillers={arc: 1, 4: 7}))
+            yield read(job(*T_ARCS, *outside, fillers={arc: 1, 4: 7}))
     for parents, costs in FAULTY:
         for members in range(4):
             yield read(job(parents, costs, [BEYOND_CAP] * members, [LEAST] * members))
     for members in (0, 1, 2, 4, 5):
         for cap, proposal in ((0, 0), (BEYOND_CAP, 0), (0, LEAST)):
-            yield read(job(*T, [cap] * members, [proposal] * members))
+            yield read(job(*T_ARCS, [cap] * members, [proposal] * members))
 
 
 def job_values():
@@ -216,14 +217,14 @@ def job_values():
             caps = [7, 12, 4]
             caps[place] = cap
             for proposals in ([7, 5, 4], [-BEYOND_SHARE, 5, 4], [MOST_SHARE, 5, BEYOND_SHARE]):
-                yield read(job(*T, caps, proposals))
+                yield read(job(*T_ARCS, caps, proposals))
     shares = [-256, -1, 0, 256, 2**32, -(2**32), LEAST, LEAST + 1, GREATEST]
     for share in shares + [MOST_SHARE, -MOST_SHARE, BEYOND_SHARE, -BEYOND_SHARE]:
         yield read(job([0], [0], [0], [share]))
         for place in range(3):
             proposals = [7, 5, 4]
             proposals[place] = share
-            yield read(job(*T, [7, 12, 4], proposals))
+            yield read(job(*T_ARCS, [7, 12, 4], proposals))
     for caps in ([BEYOND_CAP, 2**64 - 1], [0, BEYOND_CAP], [MOST_CAP, 0]):
         for proposals in ([BEYOND_SHARE, 0], [0, -BEYOND_SHARE]):
             yield read(job([0, 0], [1, 2], caps, proposals))
@@ -240,7 +241,7 @@ def lent_lengths():
     for lent in ([1024] * 4, [1100] * 4, [1023, 1024, 1025, 1026], [1100, 1023, 1099, 1023]):
         yield read(T_JOB, lent)
         yield read(plain([1], [1]), lent)
-        yield read(job(*T, [MOST_CAP] * 3, [0, 0, BEYOND_SHARE]), lent)
+        yield read(job(*T_ARCS, [MOST_CAP] * 3, [0, 0, BEYOND_SHARE]), lent)
         yield read(plain(star(40), star(40)), lent)
 
 
@@ -248,10 +249,10 @@ def random_jobs():
     """Small jobs, and each with one byte changed."""
     dice = random.Random(24823)
     for _ in range(300):
-        parents, costs = random_tree(dice, dice.randint(1, 9))
+        tree = random_tree(dice, dice.randint(1, 9))
         note = dice.randbytes(dice.choice([0, 0, 0, 1, 5, 16]))
-        caps, proposals = random_caps(dice, parents, costs), random_proposal(dice, parents, costs)
-        data = job(parents, costs, caps, proposals, note=note)
+        caps, proposals = random_caps(dice, tree), random_proposal(dice, tree)
+        data = job(tree.parents, tree.costs, caps, proposals, note=note)
         yield read(data, [dice.choice([1023, 1100]) for _ in range(4)])
         place = dice.choice([dice.randrange(len(data)), dice.randrange(len(data) - TRAILER, len(data))])
         byte = (data[place] + dice.choice([1, 2, 128, 255, dice.randint(1, 255)])) % 256

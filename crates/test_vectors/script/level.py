@@ -4,7 +4,7 @@ from heapq import heapify, heappop, heapreplace
 from itertools import combinations, product
 from math import prod
 
-from rules import Refusal, arc_needs, arc_users, group_cost
+from rules import Refusal, arc_needs, arc_users, counted_costs, group_cost, whole_cost
 
 # up to here the slow calculations are made too, and compared
 MOST_UNITS = 2000
@@ -12,10 +12,10 @@ MOST_MEMBERS = 5
 MOST_LISTS = 2000
 
 
-def first_shortfall(parents, costs, caps):
+def first_shortfall(tree, caps):
     """The first arc from m down whose users' caps fall short of its need, and by how much; or None."""
-    needs, users = arc_needs(parents, costs), arc_users(parents)
-    for arc in range(len(parents), 0, -1):
+    needs, users = arc_needs(tree), arc_users(tree)
+    for arc in range(len(needs), 0, -1):
         short = needs[arc - 1] - sum(caps[j] for j in users[arc - 1])
         if short > 0:
             return arc, short
@@ -60,14 +60,14 @@ def give_steps(shares, caps, users, amount):
     assert amount == 0
 
 
-def split(give, parents, costs, caps):
+def split(give, tree, caps):
     shares = [0] * len(caps)
-    for users, cost in reversed(list(zip(arc_users(parents), costs))):
+    for users, cost in reversed(list(zip(arc_users(tree), counted_costs(tree)))):
         give(shares, caps, users, cost)
     return shares
 
 
-def all_lists(parents, costs, caps):
+def all_lists(tree, caps):
     """Every whole list within the caps and in the core; None where there are too many to try.
 
     A member pays at most the cost of its own network, and at least what is left after the others pay that of theirs.
@@ -76,7 +76,7 @@ def all_lists(parents, costs, caps):
         return None
     everyone = range(len(caps))
     group_costs = {
-        group: group_cost(parents, costs, group)
+        group: group_cost(tree, group)
         for size in range(len(caps) + 1)
         for group in combinations(everyone, size)
     }
@@ -99,16 +99,16 @@ def least_squares(lists):
     return min(sum(share * share for share in shares) for shares in lists)
 
 
-def level_split(parents, costs, caps):
+def level_split(tree, caps):
     """The shares, or refusal 9."""
-    case = parents, costs, caps
+    case = tree, caps
     short = first_shortfall(*case)
     lists = all_lists(*case)
     if short:
         assert not lists, case
         raise Refusal(9, *short)
     shares = split(give_steps, *case)
-    if sum(costs) <= MOST_UNITS:
+    if whole_cost(tree) <= MOST_UNITS:
         assert shares == split(give_units, *case), case
     if lists is not None:
         assert shares in lists, case

@@ -1,9 +1,22 @@
 """Networks, groups, proposals and caps that the cases use."""
-from rules import MOST_CAP, MOST_COST, MOST_SHARE, arc_users, member_vertices, words_of
+from rules import (
+    MOST_CAP,
+    MOST_COST,
+    MOST_SHARE,
+    all_marked,
+    arc_users,
+    counted_costs,
+    member_count,
+    whole_cost,
+    words_of,
+)
 
-T = [0, 1, 1, 0], [6, 1, 5, 4]
-U = [0, 1, 1], [7, 0, 0]
-W = [0, 1, 1, 0], [10, 1, 1, 8]
+T = all_marked([0, 1, 1, 0], [6, 1, 5, 4])
+U = all_marked([0, 1, 1], [7, 0, 0])
+W = all_marked([0, 1, 1, 0], [10, 1, 1, 8])
+
+# T with nobody at vertex 3
+T_SPARE = T._replace(marks=[0, 1, 0, 1])
 
 
 def star(arcs):
@@ -41,7 +54,7 @@ def random_tree(dice, arcs):
     shape = dice.choice(["any", "deep", "wide"])
     most = dice.choice([1, 9, 9, 1000, MOST_COST])
     parents = [random_parent(dice, shape, arc) for arc in range(1, arcs + 1)]
-    return parents, [dice.randint(0, most) for _ in range(arcs)]
+    return all_marked(parents, [dice.randint(0, most) for _ in range(arcs)])
 
 
 def random_group(dice, count):
@@ -49,18 +62,20 @@ def random_group(dice, count):
     return words_of(j for j in range(count) if dice.random() < share)
 
 
-def random_payers(dice, parents, costs):
+def random_payers(dice, tree):
     """A proposal that passes: each arc is paid by one of its users."""
-    proposal = [0] * len(member_vertices(parents))
-    for cost, can_pay in zip(costs, arc_users(parents)):
-        proposal[dice.choice(can_pay)] += cost
+    proposal = [0] * member_count(tree)
+    for cost, can_pay in zip(tree.costs, arc_users(tree)):
+        if can_pay:
+            proposal[dice.choice(can_pay)] += cost
     return proposal
 
 
-def random_proposal(dice, parents, costs):
+def random_proposal(dice, tree):
     """Mostly one that adds up: a few amounts go from one member to another."""
-    proposal = random_payers(dice, parents, costs)
-    most = dice.choice([1, 2, max(costs), max(costs), 2 * sum(costs), MOST_SHARE // 10])
+    proposal = random_payers(dice, tree)
+    costliest = max(counted_costs(tree))
+    most = dice.choice([1, 2, costliest, costliest, 2 * whole_cost(tree), MOST_SHARE // 10])
     for _ in range(dice.randrange(6)):
         amount = dice.randint(0, most)
         proposal[dice.randrange(len(proposal))] += amount
@@ -70,10 +85,10 @@ def random_proposal(dice, parents, costs):
     return proposal
 
 
-def random_caps(dice, parents, costs):
+def random_caps(dice, tree):
     """From caps that nobody reaches to caps that just suffice; some do not."""
-    caps = random_payers(dice, parents, costs)
-    slack = dice.choice([0, 1, 3, max(costs), sum(costs)])
+    caps = random_payers(dice, tree)
+    slack = dice.choice([0, 1, 3, max(counted_costs(tree)), whole_cost(tree)])
     for j, cap in enumerate(caps):
         caps[j] = dice.choice([cap, cap + dice.randint(0, slack), cap + slack])
     change = dice.choice(["none", "none", "none", "one unit", "nothing", "most"])

@@ -1,5 +1,6 @@
 """The rules of docs/SPECIFICATION.md, straight from its text and with no call of the engine."""
 from itertools import combinations
+from typing import NamedTuple
 
 MOST_ARCS = 1023
 MOST_COST = 1_000_000_000
@@ -14,17 +15,60 @@ class Refusal(Exception):
         self.shortfall = shortfall
 
 
-def check_tree(parents, costs):
-    """1, 2, then 3 and 4 arc by arc."""
+class Tree(NamedTuple):
+    """The lists as handed in; entry 0 belongs to arc 1 and to vertex 1."""
+
+    parents: list
+    costs: list
+    marks: list
+
+
+def dead_end_marks(parents):
+    """1 at each vertex that no entry names, 0 elsewhere."""
+    named = set(parents)
+    return [int(vertex not in named) for vertex in range(1, len(parents) + 1)]
+
+
+def all_marked(parents, costs):
+    """The tree in which every dead end is marked."""
+    return Tree(parents, costs, dead_end_marks(parents))
+
+
+def check_lengths(parents, *others):
+    """1, then 2."""
     if not 1 <= len(parents) <= MOST_ARCS:
         raise Refusal(1)
-    if len(parents) != len(costs):
+    if any(len(other) != len(parents) for other in others):
         raise Refusal(2)
+
+
+def check_arc(arc, parent, cost):
+    """3, then 4."""
+    if not parent < arc:
+        raise Refusal(3, arc)
+    if cost > MOST_COST:
+        raise Refusal(4, arc)
+
+
+def check_unmarked(parents, costs):
+    """The checks of a tree without marks: 1, 2, then 3 and 4 arc by arc."""
+    check_lengths(parents, costs)
     for arc, (parent, cost) in enumerate(zip(parents, costs), 1):
-        if not parent < arc:
-            raise Refusal(3, arc)
-        if cost > MOST_COST:
-            raise Refusal(4, arc)
+        check_arc(arc, parent, cost)
+
+
+def check_tree(tree):
+    """1, 2, then 3, 4, 16 and 17 arc by arc, then 18."""
+    check_lengths(*tree)
+    named = set(tree.parents)
+    for arc, (parent, cost, mark) in enumerate(zip(*tree), 1):
+        check_arc(arc, parent, cost)
+        if mark not in (0, 1):
+            raise Refusal(16, arc)
+        if mark == 1 and arc in named:
+            raise Refusal(17, arc)
+    if 1 not in tree.marks:
+        raise Refusal(18)
 
 
 def check_group(words, count):
@@ -57,10 +101,13 @@ def check_output(out, length):
         raise Refusal(8)
 
 
-def member_vertices(parents):
-    """The vertices other than 0 without a child, in rising order."""
-    with_child = set(parents)
-    return [v for v in range(1, len(parents) + 1) if v not in with_child]
+def member_vertices(tree):
+    """The marked vertices, in rising order."""
+    return [vertex for vertex, mark in enumerate(tree.marks, 1) if mark == 1]
+
+
+def member_count(tree):
+    return len(member_vertices(tree))
 
 
 def path(parents, vertex):
@@ -72,13 +119,22 @@ def path(parents, vertex):
     return arcs
 
 
-def arc_users(parents):
+def arc_users(tree):
     """For each arc the members at or below the vertex that it enters, in rising order."""
-    users = [[] for _ in parents]
-    for j, vertex in enumerate(member_vertices(parents)):
-        for arc in path(parents, vertex):
+    users = [[] for _ in tree.parents]
+    for j, vertex in enumerate(member_vertices(tree)):
+        for arc in path(tree.parents, vertex):
             users[arc - 1].append(j)
     return users
+
+
+def counted_costs(tree):
+    """The costs; 0 for an arc without users."""
+    return [cost if users else 0 for cost, users in zip(tree.costs, arc_users(tree))]
+
+
+def whole_cost(tree):
+    return sum(counted_costs(tree))
 
 
 def ones(words):
@@ -95,56 +151,57 @@ def words_of(bits):
     return words
 
 
-def arc_needs(parents, costs):
-    """For each arc the costs of all arcs at or below it."""
-    needs = [0] * len(parents)
-    for arc, cost in enumerate(costs, 1):
-        for above in path(parents, arc):
+def arc_needs(tree):
+    """For each arc the counted costs of all arcs at or below it."""
+    needs = [0] * len(tree.parents)
+    for arc, cost in enumerate(counted_costs(tree), 1):
+        for above in path(tree.parents, arc):
             needs[above - 1] += cost
     return needs
 
 
-def group_cost(parents, costs, group):
+def group_cost(tree, group):
     """The costs of all arcs that at least one of the members uses."""
-    vertices = member_vertices(parents)
-    used = {arc for j in group for arc in path(parents, vertices[j])}
-    return sum(costs[arc - 1] for arc in used)
+    vertices = member_vertices(tree)
+    used = {arc for j in group for arc in path(tree.parents, vertices[j])}
+    return sum(tree.costs[arc - 1] for arc in used)
 
 
 MOST_TRIED = 12
 
 
-def best_of_all(parents, costs, proposal):
+def best_of_all(tree, proposal):
     """The greatest overpayment, with the smallest group that reaches it: every group is tried."""
     members = range(len(proposal))
     tried = [
-        (sum(proposal[j] for j in group) - group_cost(parents, costs, group), list(group))
+        (sum(proposal[j] for j in group) - group_cost(tree, group), list(group))
         for size in range(len(proposal) + 1)
         for group in combinations(members, size)
     ]
     most = max(over for over, _ in tried)
     reach = [group for over, group in tried if over == most]
     smallest = [group for group in reach if len(group) == len(reach[0])]
-    assert len(smallest) == 1, (parents, costs, proposal)
+    assert len(smallest) == 1, (tree, proposal)
     return most, smallest[0]
 
 
-def best_from_leaves(parents, costs, proposal):
+def best_from_leaves(tree, proposal):
     """The same for any number of members: at each arc nobody, or the best below it together."""
-    over = [0] * (len(parents) + 1)
+    over = [0] * (len(tree.parents) + 1)
     group = [[] for _ in over]
-    for j, vertex in enumerate(member_vertices(parents)):
+    for j, vertex in enumerate(member_vertices(tree)):
         over[vertex], group[vertex] = proposal[j], [j]
-    for arc in range(len(parents), 0, -1):
-        if over[arc] > costs[arc - 1]:
-            parent = parents[arc - 1]
-            over[parent] += over[arc] - costs[arc - 1]
+    for arc in range(len(tree.parents), 0, -1):
+        cost = tree.costs[arc - 1]
+        if over[arc] > cost:
+            parent = tree.parents[arc - 1]
+            over[parent] += over[arc] - cost
             group[parent] += group[arc]
     return over[0], sorted(group[0])
 
 
-def best_group(parents, costs, proposal):
-    best = best_from_leaves(parents, costs, proposal)
+def best_group(tree, proposal):
+    best = best_from_leaves(tree, proposal)
     if len(proposal) <= MOST_TRIED:
-        assert best == best_of_all(parents, costs, proposal), (parents, costs, proposal)
+        assert best == best_of_all(tree, proposal), (tree, proposal)
     return best

@@ -1,70 +1,74 @@
-"""The cases of the tree, members, needs and group costs."""
+"""The cases of the tree, members, dead ends, needs and group costs."""
 import random
 
-from rules import MOST_COST, member_vertices, words_of
-from networks import T, U, W, all_groups, chain, random_group, random_proposal, random_tree, star
+from rules import MOST_COST, Tree, all_marked, member_count, words_of
+from networks import T, T_SPARE, U, W, all_groups, chain, random_group, random_proposal, random_tree, star
 
 
-def every_entry(parents, costs, words=words_of([0])):
+def every_entry(tree, words=words_of([0])):
     """A case of each command, with output lists, a proposal and caps of the right length."""
-    count = len(member_vertices(parents))
+    count = member_count(tree)
+    arcs = len(tree.parents)
     return [
-        ("check", parents, costs),
-        ("count", parents, costs),
-        ("members", parents, costs, count),
-        ("needs", parents, costs, len(parents)),
-        ("group", parents, costs, words),
-        ("audit", parents, costs, [0] * count),
+        ("check", tree),
+        ("count", tree),
+        ("members", tree, count),
+        ("needs", tree, arcs),
+        ("group", tree, words),
+        ("audit", tree, [0] * count),
         ("shares", count, [0] * count),
-        ("level", parents, costs, [sum(costs)] * count, count),
+        ("level", tree, [sum(tree.costs)] * count, count),
         ("caps", count, [0] * count),
-        ("byarc", parents, costs, count),
+        ("byarc", tree, count),
+        ("deadends", tree.parents, tree.costs, arcs),
     ]
 
 
 def small_networks():
-    for parents, costs in (T, U, W, ([0], [0]), ([0], [MOST_COST]), ([0, 1], [3, 4])):
-        yield from every_entry(parents, costs)
-        for words in all_groups(len(member_vertices(parents))):
-            yield "group", parents, costs, words
+    for tree in (T, U, W, all_marked([0], [0]), all_marked([0], [MOST_COST]), all_marked([0, 1], [3, 4])):
+        yield from every_entry(tree)
+        for words in all_groups(member_count(tree)):
+            yield "group", tree, words
 
 
 def limits():
     for shape in (chain, star):
-        everyone = words_of(range(len(member_vertices(shape(1023)))))
-        yield from every_entry(shape(1023), [1] * 1023, everyone)
-        yield "needs", shape(1023), [MOST_COST] * 1023, 1023
-        yield "group", shape(1023), [MOST_COST] * 1023, everyone
-        yield "check", shape(1022), [1] * 1022
-        yield "check", shape(1024), [1] * 1024
-    yield from every_entry(star(1024), [0] * 1024)
-    yield "check", star(1024), [MOST_COST] * 1024
-    yield "check", star(1100), [1] * 1100
-    yield "check", chain(1023), [1] * 1022 + [MOST_COST + 1]
-    yield "check", chain(1022) + [1023], [1] * 1023
+        tree = all_marked(shape(1023), [1] * 1023)
+        everyone = words_of(range(member_count(tree)))
+        yield from every_entry(tree, everyone)
+        costly = tree._replace(costs=[MOST_COST] * 1023)
+        yield "needs", costly, 1023
+        yield "group", costly, everyone
+        yield "check", all_marked(shape(1022), [1] * 1022)
+        yield "check", all_marked(shape(1024), [1] * 1024)
+    yield from every_entry(all_marked(star(1024), [0] * 1024))
+    yield "check", all_marked(star(1024), [MOST_COST] * 1024)
+    yield "check", all_marked(star(1100), [1] * 1100)
+    yield "check", all_marked(chain(1023), [1] * 1022 + [MOST_COST + 1])
+    yield "check", all_marked(chain(1022) + [1023], [1] * 1023)
     for arcs in (0, 1, 2):
-        yield from every_entry(star(arcs), [0] * arcs)
+        yield from every_entry(all_marked(star(arcs), [0] * arcs))
     for cost in (MOST_COST - 1, MOST_COST, MOST_COST + 1, 2**31, 2**32 - 1):
-        yield from every_entry([0, 1, 0], [1, cost, 2])
+        yield from every_entry(all_marked([0, 1, 0], [1, cost, 2]))
     for parent in (0, 1, 2, 3, 4, 2**15, 2**16 - 1):
-        yield from every_entry([0, 1, parent], [1, 2, 3])
+        yield from every_entry(all_marked([0, 1, parent], [1, 2, 3]))
 
 
 def group_bits():
     for bits in ([2], [3], [0, 3], [63], [64], [1023], [3, 64, 1023], [1, 70, 65], [64, 1023]):
-        yield "group", *T, words_of(bits)
-    yield "group", *T, words_of(range(1024))
+        yield "group", T, words_of(bits)
+    yield "group", T, words_of(range(1024))
     for count in (63, 64, 65, 128, 1023):
-        costs = [j % 10 for j in range(count)]
+        tree = all_marked(star(count), [j % 10 for j in range(count)])
         for bits in ([0], [count - 1], [count], range(count), range(count + 1), range(0, count, 3)):
-            yield "group", star(count), costs, words_of(bits)
-    yield "group", star(1023), [1] * 1023, words_of(range(1024))
+            yield "group", tree, words_of(bits)
+    yield "group", all_marked(star(1023), [1] * 1023), words_of(range(1024))
 
 
-# trees with more than one fault, or with one that comes before those of other lists
 LARGE = MOST_COST + 1
 
-FAULTY = [
+# parents and costs with more than one fault, or with one that comes before those of other lists
+FAULTY_ARCS = [
     # 1 before 2
     ([], [1]),
     # 2 before 3 and 4
@@ -83,27 +87,88 @@ FAULTY = [
     ([0, 1, 2], [1, LARGE, LARGE]),
 ]
 
+FAULTY_MARKS = [
+    # 1 before 2
+    Tree([], [], [1]),
+    # 2 with one list or both of another length
+    Tree([0, 1], [1, 2], []),
+    Tree([0, 1], [1, 2], [0]),
+    Tree([0, 1], [1, 2], [0, 1, 0]),
+    Tree([0, 1], [1], [0]),
+    Tree([0, 1], [1, 2, 3], [0, 1, 0]),
+    Tree([0, 1], [1], [0, 1, 0]),
+    # 2 before 3, 4, 16, 17 and 18
+    Tree([1], [5], []),
+    Tree([0, 1], [LARGE, 1], [0]),
+    Tree([0, 1], [1, 2], [2]),
+    Tree([0, 1], [1, 2], [1]),
+    Tree([0], [7], [0, 0]),
+    # 3 before 16 and before 17 at one arc
+    Tree([1], [5], [2]),
+    Tree([0, 2], [1, 2], [0, 1]),
+    # 4 before 16 and before 17 at one arc
+    Tree([0], [LARGE], [2]),
+    Tree([0, 1], [LARGE, 1], [1, 1]),
+    # 3 and 4 before 16 and 17 at the next arc
+    Tree([1, 0], [1, 2], [0, 2]),
+    Tree([1, 0, 2], [1, 2, 3], [0, 1, 1]),
+    Tree([0, 0], [LARGE, 1], [1, 2]),
+    Tree([0, 0, 2], [LARGE, 1, 2], [0, 1, 1]),
+    # 16 before 3, 4 and 17 at the next arc
+    Tree([0, 2], [1, 2], [2, 0]),
+    Tree([0, 1], [1, LARGE], [2, 1]),
+    Tree([0, 0, 2], [1, 2, 3], [2, 1, 1]),
+    # 17 before 3, 4 and 16 at the next arc, and before 3 at a later one
+    Tree([0, 2, 1], [1, 2, 3], [1, 0, 0]),
+    Tree([0, 1], [1, LARGE], [1, 1]),
+    Tree([0, 1], [1, 2], [1, 2]),
+    Tree([0, 1, 0, 9], [1, 2, 3, 4], [1, 1, 1, 1]),
+    # 17 at arc 1, because of the last entry
+    Tree([0, 0, 0, 1], [1, 2, 3, 4], [1, 1, 1, 1]),
+    # an entry beyond all vertices names none of them: 3, or 17 because of another entry
+    Tree([0, 2**16 - 1], [1, 2], [1, 1]),
+    Tree([0, 1024], [1, 2], [1, 1]),
+    Tree([0, 1025], [1, 2], [1, 1]),
+    Tree([0, 2**16 - 1, 1], [1, 2, 3], [1, 0, 1]),
+    Tree([0, 1025, 0], [1, 2, 3], [0, 1, 2]),
+    # 18, and 3, 4 and 16 at the last arc before it
+    T._replace(marks=[0, 0, 0, 0]),
+    Tree([0], [7], [0]),
+    Tree([0, 2], [1, 2], [0, 0]),
+    Tree([0, 1], [1, LARGE], [0, 0]),
+    Tree([0, 1], [1, 2], [0, 2]),
+    # marks that are 0 or 1 in a part of their bits
+    *(Tree([0, 1], [1, 2], [0, mark]) for mark in (3, 255, 256, 257, 2**15, 2**15 + 1, 2**16 - 1)),
+]
+
+FAULTY = [all_marked(*arcs) for arcs in FAULTY_ARCS] + FAULTY_MARKS
+
+
+def listing(tree, length):
+    """The entries that write and take nothing but a tree, with an output list of this length."""
+    yield "members", tree, length
+    yield "needs", tree, length
+    yield "deadends", tree.parents, tree.costs, length
+
 
 def refusal_order():
     # 1 before 2, 3 and 4
     for costs in ([], star(1023), star(1025), [LARGE] * 1024):
-        yield "check", [1] * 1024, costs
+        yield "check", all_marked([1] * 1024, costs)
     # the tree before 5 and 8
-    for parents, costs in FAULTY:
-        yield from every_entry(parents, costs)
-        yield "group", parents, costs, words_of([1023])
+    for tree in FAULTY:
+        yield from every_entry(tree)
+        yield "group", tree, words_of([1023])
         for length in (0, 2, 5):
-            yield "members", parents, costs, length
-            yield "needs", parents, costs, length
-    for parents, costs in (T, ([0], [7]), (chain(5), [1] * 5), (star(5), [2] * 5)):
+            yield from listing(tree, length)
+    for tree in (T, T_SPARE, all_marked([0], [7]), all_marked(chain(5), [1] * 5), all_marked(star(5), [2] * 5)):
         for length in (0, 1, 2, 3, 4, 5, 6, 1023, 1100):
-            yield "members", parents, costs, length
-            yield "needs", parents, costs, length
+            yield from listing(tree, length)
 
 
-def damaged(dice, parents, costs):
-    """The tree with one fault."""
-    parents, costs = list(parents), list(costs)
+def damaged(dice, tree):
+    """The tree with one fault in its parents or costs."""
+    parents, costs = list(tree.parents), list(tree.costs)
     arc = dice.randint(1, len(parents))
     fault = dice.choice(["parent", "cost", "both", "shorter", "longer", "no parents"])
     if fault in ("parent", "both"):
@@ -116,34 +181,34 @@ def damaged(dice, parents, costs):
         costs.append(0)
     if fault == "no parents":
         parents.clear()
-    return parents, costs
+    return all_marked(parents, costs)
 
 
 def random_trees():
     dice = random.Random(2003)
     for turn in range(300):
-        parents, costs = random_tree(dice, dice.randint(1, 12))
-        count = len(member_vertices(parents))
-        yield from every_entry(parents, costs, random_group(dice, count))
-        yield "group", parents, costs, random_group(dice, count)
-        yield "group", parents, costs, random_group(dice, count + 2)
+        tree = random_tree(dice, dice.randint(1, 12))
+        count = member_count(tree)
+        yield from every_entry(tree, random_group(dice, count))
+        yield "group", tree, random_group(dice, count)
+        yield "group", tree, random_group(dice, count + 2)
         if count <= 6 and turn % 5 == 0:
             for words in all_groups(count):
-                yield "group", parents, costs, words
+                yield "group", tree, words
         if turn % 3 == 0:
-            yield from every_entry(*damaged(dice, parents, costs), random_group(dice, count + 1))
+            yield from every_entry(damaged(dice, tree), random_group(dice, count + 1))
         if turn % 3 == 1:
-            yield "members", parents, costs, count + dice.choice([-1, 1])
-            yield "needs", parents, costs, len(parents) + dice.choice([-1, 1])
+            yield "members", tree, count + dice.choice([-1, 1])
+            yield "needs", tree, len(tree.parents) + dice.choice([-1, 1])
 
 
 def large_trees():
     dice = random.Random(14)
     for arcs in (100, 500, 1023):
-        parents, costs = random_tree(dice, arcs)
-        count = len(member_vertices(parents))
-        yield from every_entry(parents, costs, random_group(dice, count))
-        yield "group", parents, costs, words_of(range(count))
-        yield "group", parents, costs, random_group(dice, count)
+        tree = random_tree(dice, arcs)
+        count = member_count(tree)
+        yield from every_entry(tree, random_group(dice, count))
+        yield "group", tree, words_of(range(count))
+        yield "group", tree, random_group(dice, count)
         for _ in range(2):
-            yield "audit", parents, costs, random_proposal(dice, parents, costs)
+            yield "audit", tree, random_proposal(dice, tree)

@@ -6,24 +6,26 @@ use lib.ListN.{getD, length}
 use Rattle.test_lines.specs.Fields.{First, fieldsOf}
 use Rattle.test_vectors.specs.declared.command.Command.{Command}
 use Rattle.test_vectors.specs.declared.command.Command.the-variants.{Check, Count, Members, Needs, Group, Audit}
-use Rattle.test_vectors.specs.declared.command.Command.the-variants.{Shares, Level, Caps, ByArc, Job, Unknown}
+use Rattle.test_vectors.specs.declared.command.Command.the-variants.{Shares, Level, Caps, ByArc, DeadEnds}
+use Rattle.test_vectors.specs.declared.command.Command.the-variants.{Job, Unknown}
 
 -- the commands, in the order of their names
 abbrev pub commands : List Command
-commands = Check ∷ Count ∷ Members ∷ Needs ∷ Group ∷ Audit ∷ Shares ∷ Level ∷ Caps ∷ ByArc ∷ Job ∷ []
+commands = Check ∷ Count ∷ Members ∷ Needs ∷ Group ∷ Audit ∷ Shares ∷ Level ∷ Caps ∷ ByArc ∷ DeadEnds ∷ Job ∷ []
 
 -- how many fields a command's line has; none is right for an unknown command
 abbrev pub fieldCount : Command → ℕ
-fieldCount Check = 3
-fieldCount Count = 3
-fieldCount Members = 4
-fieldCount Needs = 4
-fieldCount Group = 4
-fieldCount Audit = 4
+fieldCount Check = 4
+fieldCount Count = 4
+fieldCount Members = 5
+fieldCount Needs = 5
+fieldCount Group = 5
+fieldCount Audit = 5
 fieldCount Shares = 3
-fieldCount Level = 5
+fieldCount Level = 6
 fieldCount Caps = 3
-fieldCount ByArc = 4
+fieldCount ByArc = 5
+fieldCount DeadEnds = 4
 fieldCount Job = 3
 fieldCount Unknown = 0
 

@@ -1,5 +1,5 @@
-// One case: a command, a tree, and for some commands one field or two more; or a number of members and a list with an
-// entry each; or a job.
+// One case: a command, a tree, and for some commands one field or two more; or parents, costs and a length; or a number
+// of members and a list with an entry each; or a job.
 use crate::command;
 use crate::command::Command;
 use crate::job_case;
@@ -17,85 +17,85 @@ ghost use Rattle.test_lines.specs.Lists.{MOST};
 const WORDS: usize = 16;
 
 // The list is printed after a refusal too, which leaves it as it came.
-fn list_members(parents: &[u16], costs: &[u32], out: &mut [u16])
+fn list_members(parents: &[u16], costs: &[u32], marks: &[u16], out: &mut [u16])
     requires { ⌜ length (now out) ≤ MOST ⌝ }
 {
-    print::member_count(engine::list_members(parents, costs, out));
+    print::member_count(engine::list_members(parents, costs, marks, out));
     test_lines::print::list16(out);
 }
 
 // The last field is the output list's length; each of its entries is 9 before the call.
-fn members(parents: &[u16], costs: &[u32], length: &[u8]) {
+fn members(parents: &[u16], costs: &[u32], marks: &[u16], length: &[u8]) {
     let wanted = number::up_to(length, MOST as u64);
     if !wanted.readable {
         return print::bad_case();
     }
     let n = wanted.value as usize;
     let mut out = [9u16; MOST];
-    list_members(parents, costs, &mut out[0..n]);
+    list_members(parents, costs, marks, &mut out[0..n]);
 }
 
 // As list_members.
-fn list_needs(parents: &[u16], costs: &[u32], out: &mut [u64]) {
-    print::needs_found(engine::list_needs(parents, costs, out));
+fn list_needs(parents: &[u16], costs: &[u32], marks: &[u16], out: &mut [u64]) {
+    print::needs_found(engine::list_needs(parents, costs, marks, out));
     test_lines::print::list(out);
 }
 
 // As members.
-fn needs(parents: &[u16], costs: &[u32], length: &[u8]) {
+fn needs(parents: &[u16], costs: &[u32], marks: &[u16], length: &[u8]) {
     let wanted = number::up_to(length, MOST as u64);
     if !wanted.readable {
         return print::bad_case();
     }
     let n = wanted.value as usize;
     let mut out = [9u64; MOST];
-    list_needs(parents, costs, &mut out[0..n]);
+    list_needs(parents, costs, marks, &mut out[0..n]);
 }
 
 // As list_members.
-fn split_by_arc(parents: &[u16], costs: &[u32], out: &mut [u64]) {
-    print::member_count(engine::split_by_arc(parents, costs, out));
+fn split_by_arc(parents: &[u16], costs: &[u32], marks: &[u16], out: &mut [u64]) {
+    print::member_count(engine::split_by_arc(parents, costs, marks, out));
     test_lines::print::list(out);
 }
 
 // As members.
-fn by_arc(parents: &[u16], costs: &[u32], length: &[u8]) {
+fn by_arc(parents: &[u16], costs: &[u32], marks: &[u16], length: &[u8]) {
     let wanted = number::up_to(length, MOST as u64);
     if !wanted.readable {
         return print::bad_case();
     }
     let n = wanted.value as usize;
     let mut out = [9u64; MOST];
-    split_by_arc(parents, costs, &mut out[0..n]);
+    split_by_arc(parents, costs, marks, &mut out[0..n]);
 }
 
-fn group(parents: &[u16], costs: &[u32], words: &[u8]) {
+fn group(parents: &[u16], costs: &[u32], marks: &[u16], words: &[u8]) {
     let mut group = [0u64; WORDS];
     let found = list::read(words, u64::MAX, &mut group);
     if found.count != WORDS {
         return print::bad_case();
     }
-    print::group_cost(engine::group_cost(parents, costs, group));
+    print::group_cost(engine::group_cost(parents, costs, marks, group));
 }
 
-fn audit(parents: &[u16], costs: &[u32], shares: &[u8]) {
+fn audit(parents: &[u16], costs: &[u32], marks: &[u16], shares: &[u8]) {
     let mut proposal = [0i64; MOST];
     let found = list::read_signed(shares, &mut proposal);
     if !found.readable {
         return print::bad_case();
     }
     let n = found.count;
-    print::audited(engine::audit(parents, costs, &proposal[0..n]));
+    print::audited(engine::audit(parents, costs, marks, &proposal[0..n]));
 }
 
 // As list_members.
-fn split_level(parents: &[u16], costs: &[u32], caps: &[u64], out: &mut [u64]) {
-    print::level_split(engine::split_level(parents, costs, caps, out));
+fn split_level(parents: &[u16], costs: &[u32], marks: &[u16], caps: &[u64], out: &mut [u64]) {
+    print::level_split(engine::split_level(parents, costs, marks, caps, out));
     test_lines::print::list(out);
 }
 
 // As members; the field before the length has the caps.
-fn level(parents: &[u16], costs: &[u32], entries: &[u8], length: &[u8]) {
+fn level(parents: &[u16], costs: &[u32], marks: &[u16], entries: &[u8], length: &[u8]) {
     let mut caps = [0u64; MOST];
     let found = list::read(entries, u64::MAX, &mut caps);
     let wanted = number::up_to(length, MOST as u64);
@@ -108,21 +108,73 @@ fn level(parents: &[u16], costs: &[u32], entries: &[u8], length: &[u8]) {
     let k = found.count;
     let n = wanted.value as usize;
     let mut out = [9u64; MOST];
-    split_level(parents, costs, &caps[0..k], &mut out[0..n]);
+    split_level(parents, costs, marks, &caps[0..k], &mut out[0..n]);
+}
+
+// As list_members.
+fn mark_dead_ends(parents: &[u16], costs: &[u32], out: &mut [u16])
+    requires { ⌜ length (now out) ≤ MOST ⌝ }
+{
+    print::member_count(engine::mark_dead_ends(parents, costs, out));
+    test_lines::print::list16(out);
+}
+
+// As members.
+fn dead_ends(parents: &[u16], costs: &[u32], length: &[u8]) {
+    let wanted = number::up_to(length, MOST as u64);
+    if !wanted.readable {
+        return print::bad_case();
+    }
+    let n = wanted.value as usize;
+    let mut out = [9u16; MOST];
+    mark_dead_ends(parents, costs, &mut out[0..n]);
 }
 
 // A field that the line does not have comes as no bytes.
-fn on_tree(c: Command, parents: &[u16], costs: &[u32], third: &[u8], fourth: &[u8]) {
+fn on_tree(
+    c: Command,
+    parents: &[u16],
+    costs: &[u32],
+    marks: &[u16],
+    after_tree: &[u8],
+    last: &[u8],
+) {
     match c {
-        Command::Check => print::checked(engine::check_tree(parents, costs)),
-        Command::Count => print::member_count(engine::count_members(parents, costs)),
-        Command::Members => members(parents, costs, third),
-        Command::Needs => needs(parents, costs, third),
-        Command::Group => group(parents, costs, third),
-        Command::Audit => audit(parents, costs, third),
-        Command::Level => level(parents, costs, third, fourth),
-        Command::ByArc => by_arc(parents, costs, third),
+        Command::Check => print::checked(engine::check_tree(parents, costs, marks)),
+        Command::Count => print::member_count(engine::count_members(parents, costs, marks)),
+        Command::Members => members(parents, costs, marks, after_tree),
+        Command::Needs => needs(parents, costs, marks, after_tree),
+        Command::Group => group(parents, costs, marks, after_tree),
+        Command::Audit => audit(parents, costs, marks, after_tree),
+        Command::Level => level(parents, costs, marks, after_tree, last),
+        Command::ByArc => by_arc(parents, costs, marks, after_tree),
         _ => print::bad_case(),
+    }
+}
+
+// Field 3 has the marks.
+fn with_marks(c: Command, line: &[u8], parents: &[u16], costs: &[u32]) {
+    let mut marks = [0u16; MOST];
+    let found = list::read16(field::nth(line, 3), &mut marks);
+    if !found.readable {
+        return print::bad_case();
+    }
+    let n = found.count;
+    on_tree(
+        c,
+        parents,
+        costs,
+        &marks[0..n],
+        field::nth(line, 4),
+        field::nth(line, 5),
+    );
+}
+
+// One command takes no marks: its field 3 is the length.
+fn on_costs(c: Command, line: &[u8], parents: &[u16], costs: &[u32]) {
+    match c {
+        Command::DeadEnds => dead_ends(parents, costs, field::nth(line, 3)),
+        _ => with_marks(c, line, parents, costs),
     }
 }
 
@@ -134,13 +186,7 @@ fn with_costs(c: Command, line: &[u8], parents: &[u16]) {
         return print::bad_case();
     }
     let n = found.count;
-    on_tree(
-        c,
-        parents,
-        &costs[0..n],
-        field::nth(line, 3),
-        field::nth(line, 4),
-    );
+    on_costs(c, line, parents, &costs[0..n]);
 }
 
 // Field 1 has the parents.

@@ -15,17 +15,18 @@ pub enum Command {
     Level,
     Caps,
     ByArc,
+    DeadEnds,
     Job,
     Unknown,
 }
 
 pub fn named(name: &[u8]) -> Command
-    ensures { λ r. ⌜ Named (ascii "check count members needs group audit shares level caps byarc job")
+    ensures { λ r. ⌜ Named (ascii "check count members needs group audit shares level caps byarc deadends job")
         (now (name .entry)) r ⌝ }
 {
     match field::find(
-        b"check count members needs group audit shares level caps byarc job",
-        11,
+        b"check count members needs group audit shares level caps byarc deadends job",
+        12,
         name,
     ) {
         0 => Command::Check,
@@ -38,7 +39,8 @@ pub fn named(name: &[u8]) -> Command
         7 => Command::Level,
         8 => Command::Caps,
         9 => Command::ByArc,
-        10 => Command::Job,
+        10 => Command::DeadEnds,
+        11 => Command::Job,
         _ => Command::Unknown,
     }
 }
@@ -48,16 +50,17 @@ pub fn fields(c: Command) -> usize
     ensures { λ r. ⌜ r ≡ fieldCount c ⌝ }
 {
     match c {
-        Command::Check => 3,
-        Command::Count => 3,
-        Command::Members => 4,
-        Command::Needs => 4,
-        Command::Group => 4,
-        Command::Audit => 4,
+        Command::Check => 4,
+        Command::Count => 4,
+        Command::Members => 5,
+        Command::Needs => 5,
+        Command::Group => 5,
+        Command::Audit => 5,
         Command::Shares => 3,
-        Command::Level => 5,
+        Command::Level => 6,
         Command::Caps => 3,
-        Command::ByArc => 4,
+        Command::ByArc => 5,
+        Command::DeadEnds => 4,
         Command::Job => 3,
         Command::Unknown => 0,
     }

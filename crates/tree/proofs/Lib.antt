@@ -5,5 +5,6 @@ mod SumPass
 pub mod CapPass
 pub mod UsePass
 mod GroupPass
+mod CountedPass
 pub mod Vertices
 mod UserCounts

@@ -1,6 +1,6 @@
 -- The members' vertices as they are handed in, and the network whose members stand there.
-use Prim.Native.Nat.{ℕ, zero, suc, pred, _≤_, _<_}
-use mathlib.Core.Path.{_≡_, refl, sym, ap, ap₂, _∙_, fun-ext}
+use Prim.Native.Nat.{ℕ, zero, suc, pred, _≤_}
+use mathlib.Core.Path.{_≡_, refl, sym, ap, _∙_, fun-ext}
 use mathlib.Core.Bool.{Bool, true}
 use mathlib.Core.List.{List, []}
 use native.Mathlib.Decide.{decLt}
@@ -10,7 +10,7 @@ use lib.ListN.{length, getD, List·getD-eq-default}
 use lib.Dec.{eqb}
 use Rattle.limits.specs.Limits.{mostArcs}
 use Rattle.basics.specs.Sum.{count}
-use Rattle.game.specs.Network.{Network, memberCount, members, membersTo}
+use Rattle.game.specs.Network.{memberCount, members, membersTo}
 use Rattle.game.specs.Tree.{networkOf, ofArc, hasChild, marked}
 use Rattle.basics.proofs.Bools.{clash, same-test}
 use Rattle.basics.proofs.Sums.{In, count-le, some-of, some-is}

@@ -1,34 +1,15 @@
 // The cost of a group in one pass: that an arc is used is carried to its parent.
 use crate::members::one_if_marked;
+use crate::usage::cost_if;
+use crate::usage::either;
+use crate::usage::used_here;
 use limits::MOST_ARCS;
 ghost use mathlib.Core.Path.{_≡_};
-ghost use mathlib.Core.Bool.{_||_, cond};
-ghost use lib.Dec.{eqb};
-ghost use Rattle.basics.specs.Sum.{pick};
 ghost use Rattle.game.specs.Network.{groupCost, memberCount};
 ghost use Rattle.game.specs.Tree.{networkOf};
 ghost use Rattle.basics.specs.Bit.{bit};
 ghost use Rattle.game.specs.Group.{byNumber};
 ghost use Rattle.tree.specs.Passes.{Sound, Costed, Marked};
-
-// An arc is used at a member by its being chosen, elsewhere by a child arc.
-fn used_here(mark: u16, chosen: bool, by_child: bool) -> bool
-    ensures { λ r. ⌜ r ≡ cond (eqb mark 1) chosen «by_child» ⌝ }
-{
-    if mark == 1 { chosen } else { by_child }
-}
-
-fn either(a: bool, b: bool) -> bool
-    ensures { λ r. ⌜ r ≡ (a || b) ⌝ }
-{
-    if a { true } else { b }
-}
-
-fn cost_if(used: bool, cost: u32) -> u64
-    ensures { λ r. ⌜ r ≡ pick used cost ⌝ }
-{
-    if used { cost as u64 } else { 0 }
-}
 
 // The cost of the group whose member numbers are set in the words.
 pub fn cost_of(

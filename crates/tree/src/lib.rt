@@ -2,15 +2,18 @@
 // after all arcs below it. Arrays are indexed by vertex, place 0 for the source.
 mod caps;
 mod constant;
+mod counted;
 mod counts;
 mod group;
 mod members;
 mod needs;
 mod sums;
+mod usage;
 mod whole;
 
 pub use caps::write_cap_sums;
 pub use constant::write_all;
+pub use counted::write_counted;
 pub use counts::write_user_counts;
 pub use group::cost_of;
 pub use members::count_members;

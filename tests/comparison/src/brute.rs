@@ -15,11 +15,29 @@ fn is_user(tree: &Tree, arc: usize, member: usize) -> bool {
     on_path(tree, arc, tree.members[member])
 }
 
+fn users(tree: &Tree, arc: usize) -> Vec<usize> {
+    let members = 0..tree.members.len();
+    members.filter(|&j| is_user(tree, arc, j)).collect()
+}
+
+/// What the arc costs: nothing where nobody uses it.
+fn cost(tree: &Tree, arc: usize) -> u64 {
+    if users(tree, arc).is_empty() {
+        0
+    } else {
+        tree.cost[arc]
+    }
+}
+
+pub fn whole(tree: &Tree) -> u64 {
+    (1..=tree.arcs()).map(|arc| cost(tree, arc)).sum()
+}
+
 pub fn needs(tree: &Tree) -> Vec<u64> {
     let all = || 1..=tree.arcs();
     let below = |arc| all().filter(move |&other| on_path(tree, arc, other));
     all()
-        .map(|arc| below(arc).map(|other| tree.cost[other]).sum())
+        .map(|arc| below(arc).map(|other| cost(tree, other)).sum())
         .collect()
 }
 
@@ -75,9 +93,10 @@ pub fn greatest_overpayment(
 pub fn level(tree: &Tree, caps: &[u64]) -> Option<Vec<u64>> {
     let mut shares = vec![0; tree.members.len()];
     for arc in (1..=tree.arcs()).rev() {
-        for _ in 0..tree.cost[arc] {
-            let open = (0..shares.len()).filter(|&j| is_user(tree, arc, j) && shares[j] < caps[j]);
-            let member = open.min_by_key(|&j| (shares[j], j))?;
+        let users = users(tree, arc);
+        for _ in 0..cost(tree, arc) {
+            let open = users.iter().filter(|&&j| shares[j] < caps[j]);
+            let &member = open.min_by_key(|&&j| (shares[j], j))?;
             shares[member] += 1;
         }
     }
@@ -88,9 +107,8 @@ pub fn level(tree: &Tree, caps: &[u64]) -> Option<Vec<u64>> {
 pub fn by_arc(tree: &Tree) -> Vec<u64> {
     let mut shares = vec![0; tree.members.len()];
     for arc in (1..=tree.arcs()).rev() {
-        let members = (0..shares.len()).filter(|&j| is_user(tree, arc, j));
-        let users: Vec<usize> = members.collect();
-        for unit in 0..tree.cost[arc] as usize {
+        let users = users(tree, arc);
+        for unit in 0..cost(tree, arc) as usize {
             shares[users[unit % users.len()]] += 1;
         }
     }

@@ -63,60 +63,80 @@ pub fn check_proposal(tally: &mut Tally, count: usize, proposal: &[i64]) {
 pub struct Network {
     pub parents: Vec<u16>,
     pub costs: Vec<u32>,
+    pub marks: Vec<u16>,
 }
 
 impl Network {
     pub fn tree(&self) -> Answer<Tree> {
-        Tree::new(&self.parents, &self.costs)
+        Tree::new(&self.parents, &self.costs, &self.marks)
     }
 
-    fn lend(&self) -> (Lent<u16>, Lent<u32>) {
-        (Lent::new(&self.parents), Lent::new(&self.costs))
+    pub fn faults(&self) -> Vec<Refusal> {
+        reference::tree_faults(&self.parents, &self.costs, &self.marks)
     }
 
-    fn kept(&self, p: &Lent<u16>, c: &Lent<u32>) -> bool {
-        p.holds(&self.parents) && c.holds(&self.costs)
+    fn lend(&self) -> (Lent<u16>, Lent<u32>, Lent<u16>) {
+        (
+            Lent::new(&self.parents),
+            Lent::new(&self.costs),
+            Lent::new(&self.marks),
+        )
+    }
+
+    fn kept(&self, p: &Lent<u16>, c: &Lent<u32>, m: &Lent<u16>) -> bool {
+        p.holds(&self.parents) && c.holds(&self.costs) && m.holds(&self.marks)
     }
 
     pub fn check_tree(&self, tally: &mut Tally) {
-        let (p, c) = self.lend();
-        let given = ffi::check_tree(p.list(), c.list());
-        let expected = check(reference::check_tree(&self.parents, &self.costs));
+        let (p, c, m) = self.lend();
+        let given = ffi::check_tree(p.list(), c.list(), m.list());
+        let expected = check(self.tree().map(|_| ()));
         tally.case(
             "check_tree",
             expected.refusal,
             [given, expected],
-            self.kept(&p, &c),
+            self.kept(&p, &c, &m),
         );
     }
 
+    pub fn mark_dead_ends(&self, tally: &mut Tally, out: &[u16]) {
+        let answer = reference::mark_dead_ends(&self.parents, &self.costs, out.len());
+        let (p, c, m) = self.lend();
+        let mut lent = Lent::new(out);
+        let given = ffi::mark_dead_ends(p.list(), c.list(), lent.list_mut());
+        let ones = |marks: &Vec<u16>| marks.iter().filter(|&&mark| mark == 1).count();
+        let expected = members(answer.as_ref().map(ones).map_err(|&r| r));
+        let lists = self.kept(&p, &c, &m) && lent.holds(&written(out, answer));
+        tally.case("mark_dead_ends", expected.refusal, [given, expected], lists);
+    }
+
     pub fn count_members(&self, tally: &mut Tally) {
-        let (p, c) = self.lend();
-        let given = ffi::count_members(p.list(), c.list());
+        let (p, c, m) = self.lend();
+        let given = ffi::count_members(p.list(), c.list(), m.list());
         let expected = members(self.tree().map(|tree| tree.members.len()));
         tally.case(
             "count_members",
             expected.refusal,
             [given, expected],
-            self.kept(&p, &c),
+            self.kept(&p, &c, &m),
         );
     }
 
     pub fn list_members(&self, tally: &mut Tally, out: &[u16]) {
-        let answer = reference::list_members(&self.parents, &self.costs, out.len());
-        let (p, c) = self.lend();
+        let answer = reference::list_members(self.tree(), out.len());
+        let (p, c, m) = self.lend();
         let mut lent = Lent::new(out);
-        let given = ffi::list_members(p.list(), c.list(), lent.list_mut());
+        let given = ffi::list_members(p.list(), c.list(), m.list(), lent.list_mut());
         let expected = members(answer.as_ref().map(Vec::len).map_err(|&r| r));
-        let lists = self.kept(&p, &c) && lent.holds(&written(out, answer));
+        let lists = self.kept(&p, &c, &m) && lent.holds(&written(out, answer));
         tally.case("list_members", expected.refusal, [given, expected], lists);
     }
 
     pub fn list_needs(&self, tally: &mut Tally, out: &[u64]) {
-        let answer = reference::list_needs(&self.parents, &self.costs, out.len());
-        let (p, c) = self.lend();
+        let answer = reference::list_needs(self.tree(), out.len());
+        let (p, c, m) = self.lend();
         let mut lent = Lent::new(out);
-        let given = ffi::list_needs(p.list(), c.list(), lent.list_mut());
+        let given = ffi::list_needs(p.list(), c.list(), m.list(), lent.list_mut());
         let expected = match &answer {
             Ok((tree, _)) => ZilqodurNeeds {
                 whole: tree.whole(),
@@ -130,15 +150,20 @@ impl Network {
             },
         };
         let needs = answer.map(|(_, needs)| needs);
-        let lists = self.kept(&p, &c) && lent.holds(&written(out, needs));
+        let lists = self.kept(&p, &c, &m) && lent.holds(&written(out, needs));
         tally.case("list_needs", expected.refusal, [given, expected], lists);
     }
 
     pub fn group_cost(&self, tally: &mut Tally, group: &[u64; 16]) {
-        let (p, c) = self.lend();
+        let (p, c, m) = self.lend();
         let lent = Lent::new(group);
-        let given = ffi::group_cost(p.list(), c.list(), lent.list().try_into().unwrap());
-        let expected = match reference::group_cost(&self.parents, &self.costs, group) {
+        let given = ffi::group_cost(
+            p.list(),
+            c.list(),
+            m.list(),
+            lent.list().try_into().unwrap(),
+        );
+        let expected = match reference::group_cost(self.tree(), group) {
             Ok((size, cost)) => ZilqodurGroup {
                 size,
                 cost,
@@ -150,16 +175,16 @@ impl Network {
                 ..Default::default()
             },
         };
-        let lists = self.kept(&p, &c) && lent.holds(group);
+        let lists = self.kept(&p, &c, &m) && lent.holds(group);
         tally.case("group_cost", expected.refusal, [given, expected], lists);
     }
 
     pub fn audit(&self, tally: &mut Tally, proposal: &[i64]) {
-        let (p, c) = self.lend();
+        let (p, c, m) = self.lend();
         let lent = Lent::new(proposal);
-        let given = ffi::audit(p.list(), c.list(), lent.list());
+        let given = ffi::audit(p.list(), c.list(), m.list(), lent.list());
         let mut expected = ZilqodurAudit::default();
-        match reference::audit(&self.parents, &self.costs, proposal) {
+        match reference::audit(self.tree(), proposal) {
             Ok(Verdict::Pass) => expected.verdict = 1,
             Ok(Verdict::WrongTotal(difference)) => {
                 expected.verdict = 2;
@@ -175,15 +200,15 @@ impl Network {
             }
             Err(r) => (expected.refusal, expected.place) = (r.number, r.place),
         }
-        let lists = self.kept(&p, &c) && lent.holds(proposal);
+        let lists = self.kept(&p, &c, &m) && lent.holds(proposal);
         tally.case("audit", expected.refusal, [given, expected], lists);
     }
 
     pub fn split_level(&self, tally: &mut Tally, caps: &[u64], out: &[u64]) {
-        let answer = reference::split_level(&self.parents, &self.costs, caps, out.len());
-        let (p, c) = self.lend();
+        let answer = reference::split_level(self.tree(), caps, out.len());
+        let (p, c, m) = self.lend();
         let (limits, mut lent) = (Lent::new(caps), Lent::new(out));
-        let given = ffi::split_level(p.list(), c.list(), limits.list(), lent.list_mut());
+        let given = ffi::split_level(p.list(), c.list(), m.list(), limits.list(), lent.list_mut());
         let expected = match &answer {
             Ok(shares) => ZilqodurLevel {
                 members: shares.len(),
@@ -196,17 +221,18 @@ impl Network {
                 members: 0,
             },
         };
-        let lists = self.kept(&p, &c) && limits.holds(caps) && lent.holds(&written(out, answer));
+        let lists =
+            self.kept(&p, &c, &m) && limits.holds(caps) && lent.holds(&written(out, answer));
         tally.case("split_level", expected.refusal, [given, expected], lists);
     }
 
     pub fn split_by_arc(&self, tally: &mut Tally, out: &[u64]) {
-        let answer = reference::split_by_arc(&self.parents, &self.costs, out.len());
-        let (p, c) = self.lend();
+        let answer = reference::split_by_arc(self.tree(), out.len());
+        let (p, c, m) = self.lend();
         let mut lent = Lent::new(out);
-        let given = ffi::split_by_arc(p.list(), c.list(), lent.list_mut());
+        let given = ffi::split_by_arc(p.list(), c.list(), m.list(), lent.list_mut());
         let expected = members(answer.as_ref().map(Vec::len).map_err(|&r| r));
-        let lists = self.kept(&p, &c) && lent.holds(&written(out, answer));
+        let lists = self.kept(&p, &c, &m) && lent.holds(&written(out, answer));
         tally.case("split_by_arc", expected.refusal, [given, expected], lists);
     }
 }

@@ -79,94 +79,127 @@ pub struct ZilqodurReport {
 unsafe extern "C" {
     fn zilqodur_check_tree(
         parents: *const u16,
-        parents_len: usize,
+        parents_count: usize,
         costs: *const u32,
-        costs_len: usize,
+        costs_count: usize,
+        marks: *const u16,
+        marks_count: usize,
     ) -> ZilqodurCheck;
-    fn zilqodur_check_caps(members: usize, caps: *const u64, caps_len: usize) -> ZilqodurCheck;
+    fn zilqodur_check_caps(members: usize, caps: *const u64, caps_count: usize) -> ZilqodurCheck;
     fn zilqodur_check_proposal(
         members: usize,
         proposal: *const i64,
-        proposal_len: usize,
+        proposal_count: usize,
     ) -> ZilqodurCheck;
+    fn zilqodur_mark_dead_ends(
+        parents: *const u16,
+        parents_count: usize,
+        costs: *const u32,
+        costs_count: usize,
+        out: *mut u16,
+        out_count: usize,
+    ) -> ZilqodurMembers;
     fn zilqodur_count_members(
         parents: *const u16,
-        parents_len: usize,
+        parents_count: usize,
         costs: *const u32,
-        costs_len: usize,
+        costs_count: usize,
+        marks: *const u16,
+        marks_count: usize,
     ) -> ZilqodurMembers;
     fn zilqodur_list_members(
         parents: *const u16,
-        parents_len: usize,
+        parents_count: usize,
         costs: *const u32,
-        costs_len: usize,
+        costs_count: usize,
+        marks: *const u16,
+        marks_count: usize,
         out: *mut u16,
-        out_len: usize,
+        out_count: usize,
     ) -> ZilqodurMembers;
     fn zilqodur_list_needs(
         parents: *const u16,
-        parents_len: usize,
+        parents_count: usize,
         costs: *const u32,
-        costs_len: usize,
+        costs_count: usize,
+        marks: *const u16,
+        marks_count: usize,
         out: *mut u64,
-        out_len: usize,
+        out_count: usize,
     ) -> ZilqodurNeeds;
     fn zilqodur_group_cost(
         parents: *const u16,
-        parents_len: usize,
+        parents_count: usize,
         costs: *const u32,
-        costs_len: usize,
+        costs_count: usize,
+        marks: *const u16,
+        marks_count: usize,
         group: *const [u64; 16],
     ) -> ZilqodurGroup;
     fn zilqodur_audit(
         parents: *const u16,
-        parents_len: usize,
+        parents_count: usize,
         costs: *const u32,
-        costs_len: usize,
+        costs_count: usize,
+        marks: *const u16,
+        marks_count: usize,
         proposal: *const i64,
-        proposal_len: usize,
+        proposal_count: usize,
     ) -> ZilqodurAudit;
     fn zilqodur_split_level(
         parents: *const u16,
-        parents_len: usize,
+        parents_count: usize,
         costs: *const u32,
-        costs_len: usize,
+        costs_count: usize,
+        marks: *const u16,
+        marks_count: usize,
         caps: *const u64,
-        caps_len: usize,
+        caps_count: usize,
         out: *mut u64,
-        out_len: usize,
+        out_count: usize,
     ) -> ZilqodurLevel;
     fn zilqodur_split_by_arc(
         parents: *const u16,
-        parents_len: usize,
+        parents_count: usize,
         costs: *const u32,
-        costs_len: usize,
+        costs_count: usize,
+        marks: *const u16,
+        marks_count: usize,
         out: *mut u64,
-        out_len: usize,
+        out_count: usize,
     ) -> ZilqodurMembers;
     fn zilqodur_read_job(
         bytes: *const u8,
-        bytes_len: usize,
+        bytes_count: usize,
         parents: *mut u16,
-        parents_len: usize,
+        parents_count: usize,
         costs: *mut u32,
-        costs_len: usize,
+        costs_count: usize,
         caps: *mut u64,
-        caps_len: usize,
+        caps_count: usize,
         proposals: *mut i64,
-        proposals_len: usize,
+        proposals_count: usize,
     ) -> ZilqodurJob;
     fn zilqodur_report(
         bytes: *const u8,
-        bytes_len: usize,
+        bytes_count: usize,
         out: *mut [u8; REPORT_ROOM],
     ) -> ZilqodurReport;
 }
 
 // Safe: the pointers and lengths are those of live slices that do not overlap.
 
-pub fn check_tree(parents: &[u16], costs: &[u32]) -> ZilqodurCheck {
-    unsafe { zilqodur_check_tree(parents.as_ptr(), parents.len(), costs.as_ptr(), costs.len()) }
+pub fn check_tree(parents: &[u16], costs: &[u32], marks: &[u16]) -> ZilqodurCheck {
+    unsafe {
+        zilqodur_check_tree(
+            parents.as_ptr(),
+            parents.len(),
+            costs.as_ptr(),
+            costs.len(),
+            marks.as_ptr(),
+            marks.len(),
+        )
+    }
 }
 
 pub fn check_caps(members: usize, caps: &[u64]) -> ZilqodurCheck {
@@ -177,68 +210,116 @@ pub fn check_proposal(members: usize, proposal: &[i64]) -> ZilqodurCheck {
     unsafe { zilqodur_check_proposal(members, proposal.as_ptr(), proposal.len()) }
 }
 
-pub fn count_members(parents: &[u16], costs: &[u32]) -> ZilqodurMembers {
-    unsafe { zilqodur_count_members(parents.as_ptr(), parents.len(), costs.as_ptr(), costs.len()) }
+pub fn mark_dead_ends(parents: &[u16], costs: &[u32], out: &mut [u16]) -> ZilqodurMembers {
+    unsafe {
+        zilqodur_mark_dead_ends(
+            parents.as_ptr(),
+            parents.len(),
+            costs.as_ptr(),
+            costs.len(),
+            out.as_mut_ptr(),
+            out.len(),
+        )
+    }
 }
 
-pub fn list_members(parents: &[u16], costs: &[u32], out: &mut [u16]) -> ZilqodurMembers {
+pub fn count_members(parents: &[u16], costs: &[u32], marks: &[u16]) -> ZilqodurMembers {
+    unsafe {
+        zilqodur_count_members(
+            parents.as_ptr(),
+            parents.len(),
+            costs.as_ptr(),
+            costs.len(),
+            marks.as_ptr(),
+            marks.len(),
+        )
+    }
+}
+
+pub fn list_members(
+    parents: &[u16],
+    costs: &[u32],
+    marks: &[u16],
+    out: &mut [u16],
+) -> ZilqodurMembers {
     unsafe {
         zilqodur_list_members(
             parents.as_ptr(),
             parents.len(),
             costs.as_ptr(),
             costs.len(),
+            marks.as_ptr(),
+            marks.len(),
             out.as_mut_ptr(),
             out.len(),
         )
     }
 }
 
-pub fn list_needs(parents: &[u16], costs: &[u32], out: &mut [u64]) -> ZilqodurNeeds {
+pub fn list_needs(parents: &[u16], costs: &[u32], marks: &[u16], out: &mut [u64]) -> ZilqodurNeeds {
     unsafe {
         zilqodur_list_needs(
             parents.as_ptr(),
             parents.len(),
             costs.as_ptr(),
             costs.len(),
+            marks.as_ptr(),
+            marks.len(),
             out.as_mut_ptr(),
             out.len(),
         )
     }
 }
 
-pub fn group_cost(parents: &[u16], costs: &[u32], group: &[u64; 16]) -> ZilqodurGroup {
+pub fn group_cost(
+    parents: &[u16],
+    costs: &[u32],
+    marks: &[u16],
+    group: &[u64; 16],
+) -> ZilqodurGroup {
     unsafe {
         zilqodur_group_cost(
             parents.as_ptr(),
             parents.len(),
             costs.as_ptr(),
             costs.len(),
+            marks.as_ptr(),
+            marks.len(),
             group,
         )
     }
 }
 
-pub fn audit(parents: &[u16], costs: &[u32], proposal: &[i64]) -> ZilqodurAudit {
+pub fn audit(parents: &[u16], costs: &[u32], marks: &[u16], proposal: &[i64]) -> ZilqodurAudit {
     unsafe {
         zilqodur_audit(
             parents.as_ptr(),
             parents.len(),
             costs.as_ptr(),
             costs.len(),
+            marks.as_ptr(),
+            marks.len(),
             proposal.as_ptr(),
             proposal.len(),
         )
     }
 }
 
-pub fn split_level(parents: &[u16], costs: &[u32], caps: &[u64], out: &mut [u64]) -> ZilqodurLevel {
+pub fn split_level(
+    parents: &[u16],
+    costs: &[u32],
+    marks: &[u16],
+    caps: &[u64],
+    out: &mut [u64],
+) -> ZilqodurLevel {
     unsafe {
         zilqodur_split_level(
             parents.as_ptr(),
             parents.len(),
             costs.as_ptr(),
             costs.len(),
+            marks.as_ptr(),
+            marks.len(),
             caps.as_ptr(),
             caps.len(),
             out.as_mut_ptr(),
@@ -247,13 +328,20 @@ pub fn split_level(parents: &[u16], costs: &[u32], caps: &[u64], out: &mut [u64]
     }
 }
 
-pub fn split_by_arc(parents: &[u16], costs: &[u32], out: &mut [u64]) -> ZilqodurMembers {
+pub fn split_by_arc(
+    parents: &[u16],
+    costs: &[u32],
+    marks: &[u16],
+    out: &mut [u64],
+) -> ZilqodurMembers {
     unsafe {
         zilqodur_split_by_arc(
             parents.as_ptr(),
             parents.len(),
             costs.as_ptr(),
             costs.len(),
+            marks.as_ptr(),
+            marks.len(),
             out.as_mut_ptr(),
             out.len(),
         )

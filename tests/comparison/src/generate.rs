@@ -1,6 +1,7 @@
 //! Pseudo-random trees, groups and lists: valid, at the limits and past them.
 
-use crate::reference::{Tree, AMOUNT, ARCS, COST};
+use crate::compare::Network;
+use crate::reference::{dead_ends, Tree, AMOUNT, ARCS, COST};
 use crate::rng::Rng;
 
 /// The parents of a tree of one of many shapes.
@@ -46,43 +47,116 @@ pub fn costs(rng: &mut Rng, arcs: usize) -> Vec<u32> {
     (0..arcs).map(|_| cost()).collect()
 }
 
-/// Damages a tree's lists so that most of them are refused.
-pub fn damage_tree(rng: &mut Rng, parents: &mut Vec<u16>, costs: &mut Vec<u32>) {
+/// Marks that are accepted: of all dead ends, or of some of them.
+pub fn marks(rng: &mut Rng, parents: &[u16]) -> Vec<u16> {
+    let mut marks = dead_ends(parents);
+    let ends: Vec<usize> = (0..marks.len()).filter(|&i| marks[i] == 1).collect();
+    match rng.below(8) {
+        0..=2 => (),
+        3 | 4 => {
+            let spare = rng.pick(&[1, 4, 7]);
+            let cleared = ends.iter().filter(|_| rng.below(8) < spare);
+            cleared.for_each(|&i| marks[i] = 0);
+        }
+        5 => marks.fill(0),
+        // A run of vertices without members.
+        6 => {
+            let from = rng.below(marks.len());
+            let to = from + rng.below(marks.len() - from);
+            marks[from..=to].fill(0);
+        }
+        _ => clear_branches(rng, parents, &mut marks),
+    }
+    if !marks.contains(&1) {
+        marks[rng.pick(&ends)] = 1;
+    }
+    marks
+}
+
+/// Clears the marks at and below some vertices.
+fn clear_branches(rng: &mut Rng, parents: &[u16], marks: &mut [u16]) {
+    let mut bare = vec![false; parents.len() + 1];
     for _ in 0..1 + rng.below(3) {
-        let both = parents.len().min(costs.len());
-        match rng.below(10) {
-            0 => parents.clear(),
-            1 => costs.clear(),
-            2 => {
-                let lengths = [
-                    ARCS + 1,
-                    ARCS + 2,
-                    1100,
-                    2048,
-                    65_536,
-                    65_537,
-                    65_536 + both,
-                ];
-                parents.resize(rng.pick(&lengths), 0);
+        bare[1 + rng.below(parents.len())] = true;
+    }
+    for (i, &parent) in parents.iter().enumerate() {
+        bare[i + 1] |= bare[usize::from(parent)];
+        if bare[i + 1] {
+            marks[i] = 0;
+        }
+    }
+}
+
+/// Damages a tree's lists so that most of them are refused.
+pub fn damage_tree(rng: &mut Rng, n: &mut Network) {
+    for _ in 0..1 + rng.below(3) {
+        let lengths = [n.parents.len(), n.costs.len(), n.marks.len()];
+        let arcs = lengths.into_iter().min().unwrap();
+        match rng.below(8) {
+            0 | 1 => damage_lengths(rng, n),
+            2 => n.marks.fill(0),
+            _ if arcs > 0 => {
+                let k = 1 + rng.below(arcs);
+                put_fault(rng, n, k);
                 if rng.one_in(2) {
-                    costs.resize(parents.len(), 1);
+                    let next = rng.pick(&[k, k + 1]);
+                    put_fault(rng, n, next.min(arcs));
                 }
             }
-            3 => costs.push(rng.next() as u32),
-            4 => drop(costs.pop()),
-            5 => drop(parents.pop()),
-            6 | 7 if both > 0 => {
-                let k = rng.below(both);
-                parents[k] = rng.pick(&[k + 1, k + 1, k + 2, 65_535, k + 1 + both]) as u16;
-                if rng.one_in(3) {
-                    costs[k] = COST + 1;
-                }
+            _ => n.parents.push(0),
+        }
+    }
+}
+
+fn damage_lengths(rng: &mut Rng, n: &mut Network) {
+    let arcs = n.parents.len();
+    match rng.below(12) {
+        0 => n.parents.clear(),
+        1 => n.costs.clear(),
+        2 => n.marks.clear(),
+        3 | 4 => {
+            let lengths = [
+                ARCS + 1,
+                ARCS + 2,
+                1100,
+                2048,
+                65_536,
+                65_537,
+                65_536 + arcs,
+            ];
+            n.parents.resize(rng.pick(&lengths), 0);
+            if rng.one_in(2) {
+                n.costs.resize(n.parents.len(), 1);
+                n.marks.resize(n.parents.len(), 1);
             }
-            _ if both > 0 => {
-                let above = COST + 1 + rng.up_to(1_000_000_000) as u32;
-                costs[rng.below(both)] = rng.pick(&[COST + 1, u32::MAX, above]);
+        }
+        5 => n.costs.push(rng.next() as u32),
+        6 => drop(n.costs.pop()),
+        7 => n.marks.push(rng.pick(&[0, 1, 2])),
+        8 => drop(n.marks.pop()),
+        9 => n.marks.resize(65_536 + arcs, 0),
+        10 => drop(n.parents.pop()),
+        _ => n.parents.push(0),
+    }
+}
+
+/// Puts a fault with one of four refusal numbers at arc k, which all lists have.
+fn put_fault(rng: &mut Rng, n: &mut Network, k: usize) {
+    let arcs = n.parents.len();
+    match rng.pick(&[3, 4, 16, 17]) {
+        3 => n.parents[k - 1] = rng.pick(&[k, k, k + 1, 65_535, k + arcs]) as u16,
+        4 => {
+            let above = COST + 1 + rng.up_to(1_000_000_000) as u32;
+            n.costs[k - 1] = rng.pick(&[COST + 1, u32::MAX, above]);
+        }
+        16 => n.marks[k - 1] = rng.pick(&[2, 3, 256, 257, 32_768, 65_535]),
+        _ => {
+            n.marks[k - 1] = 1;
+            // A child, which may be the last vertex.
+            if k < arcs && !n.parents.contains(&(k as u16)) {
+                let later = k + rng.below(arcs - k);
+                n.parents[rng.pick(&[later, arcs - 1])] = k as u16;
             }
-            _ => parents.push(0),
         }
     }
 }
@@ -123,7 +197,7 @@ pub fn group(rng: &mut Rng, members: usize) -> [u64; 16] {
 /// Shares in the core: each arc's cost is paid by one or two of its users.
 fn core_shares(rng: &mut Rng, tree: &Tree) -> Vec<u64> {
     let mut shares = vec![0; tree.members.len()];
-    for arc in 1..=tree.arcs() {
+    for arc in tree.used() {
         let part = rng.up_to(tree.cost[arc]);
         shares[rng.pick(&tree.users[arc])] += part;
         shares[rng.pick(&tree.users[arc])] += tree.cost[arc] - part;

@@ -2,21 +2,25 @@
 
 use crate::generate;
 use crate::job::{Job, LONGEST};
-use crate::reference::{Tree, ARCS, COST};
+use crate::reference::{ARCS, COST};
 use crate::rng::Rng;
 
-/// A valid job on the tree.
-pub fn valid(rng: &mut Rng, parents: &[u16], costs: &[u32], tree: &Tree) -> Job {
+/// A valid job on the tree with every dead end marked.
+pub fn valid(rng: &mut Rng, parents: &[u16], costs: &[u32]) -> Job {
     let any = rng.below(256);
     let note = rng.pick(&[0, 0, 1, 255, any]);
-    Job {
+    let mut job = Job {
         note: (0..note).map(|_| rng.next() as u8).collect(),
         parents: parents.to_vec(),
         fillers: vec![0; parents.len()],
         costs: costs.to_vec(),
-        caps: generate::caps(rng, tree),
-        proposals: generate::proposal(rng, tree),
-    }
+        caps: Vec::new(),
+        proposals: Vec::new(),
+    };
+    let tree = job.tree().expect("the tree is accepted");
+    job.caps = generate::caps(rng, &tree);
+    job.proposals = generate::proposal(rng, &tree);
+    job
 }
 
 /// Damages the rows of a job; the trailer follows them.

@@ -1,6 +1,6 @@
 //! The job bytes (specification, §8): the reader, and the same rows written out.
 
-use crate::reference::{check_caps, check_proposal, refuse, Answer, Tree, ARCS};
+use crate::reference::{check_caps, check_proposal, dead_ends, refuse, Answer, Tree, ARCS};
 
 pub const LONGEST: usize = 24_823;
 
@@ -16,6 +16,11 @@ pub struct Job {
 }
 
 impl Job {
+    /// A job of version 1 marks every dead end.
+    pub fn tree(&self) -> Answer<Tree> {
+        Tree::new(&self.parents, &self.costs, &dead_ends(&self.parents))
+    }
+
     pub fn write(&self) -> Vec<u8> {
         let mut bytes = self.note.clone();
         for k in 0..self.parents.len() {
@@ -102,8 +107,7 @@ pub fn read(bytes: &[u8], lent: [usize; 4]) -> Answer<Job> {
     if let Some(k) = job.fillers.iter().position(|&filler| filler != 0) {
         return refuse(14, k + 1);
     }
-    let tree = Tree::new(&job.parents, &job.costs)?;
-    if tree.members.len() != layout.members {
+    if job.tree()?.members.len() != layout.members {
         return refuse(15, 0);
     }
     check_caps(layout.members, &job.caps)?;

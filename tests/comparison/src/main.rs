@@ -1,5 +1,6 @@
 //! Compares the archive with the reference on pseudo-random inputs from fixed
 //! seeds: comparison [PERCENT OF THE ROUNDS] [CANARIES ON EACH SIDE OF A LIST]
+//! A run of all rounds fails where a case of rare.rs was never met.
 
 mod brute;
 mod compare;
@@ -9,6 +10,7 @@ mod generate;
 mod generate_job;
 mod job;
 mod lent;
+mod rare;
 mod reference;
 mod report;
 mod rng;
@@ -66,21 +68,37 @@ fn main() {
         println!("{entry} {count}{refused}{parts}");
         total += count;
     }
-    println!("comparison: {total} cases, {} differences", tally.differences);
-    std::process::exit(i32::from(tally.differences > 0));
+    let unmet = if percent < 100 {
+        Vec::new()
+    } else {
+        rare::unmet(&tally)
+    };
+    for case in &unmet {
+        println!("never met: {case}");
+    }
+    let differences = tally.differences;
+    println!("comparison: {total} cases, {differences} differences");
+    std::process::exit(i32::from(differences > 0 || !unmet.is_empty()));
 }
 
 /// Every entry on one tree and on a damaged copy of it.
 fn compare_round(tally: &mut Tally, rng: &mut Rng, arcs: usize) {
     let parents = generate::parents(rng, arcs);
     let costs = generate::costs(rng, arcs);
-    let mut network = Network { parents, costs };
+    let marks = generate::marks(rng, &parents);
+    let mut network = Network {
+        parents,
+        costs,
+        marks,
+    };
     let tree = network.tree().expect("generated trees are accepted");
+    rare::note_tree(tally, &tree);
     compare_tree(tally, rng, &network, &tree);
     compare_lists(tally, rng, &network, &tree, 3);
-    compare_jobs(tally, rng, &network, &tree);
+    compare_jobs(tally, rng, &network);
     compare_definitions(tally, rng, &tree);
-    generate::damage_tree(rng, &mut network.parents, &mut network.costs);
+    generate::damage_tree(rng, &mut network);
+    rare::note_faults(tally, &network.faults());
     compare_tree(tally, rng, &network, &tree);
     compare_lists(tally, rng, &network, &tree, 1);
 }
@@ -92,6 +110,8 @@ fn filled<T>(rng: &mut Rng, length: usize, entry: impl Fn(u64) -> T) -> Vec<T> {
 /// The entries that take a tree alone, the output lists of varied lengths.
 fn compare_tree(tally: &mut Tally, rng: &mut Rng, network: &Network, tree: &Tree) {
     network.check_tree(tally);
+    let length = generate::length(rng, tree.arcs());
+    network.mark_dead_ends(tally, &filled(rng, length, |n| n as u16));
     network.count_members(tally);
     let members = tree.members.len();
     let length = generate::length(rng, members);
@@ -128,8 +148,8 @@ fn compare_lists(tally: &mut Tally, rng: &mut Rng, network: &Network, tree: &Tre
 }
 
 /// The job reader and the report on a valid job, on damaged copies and on arbitrary bytes.
-fn compare_jobs(tally: &mut Tally, rng: &mut Rng, network: &Network, tree: &Tree) {
-    let valid = generate_job::valid(rng, &network.parents, &network.costs, tree);
+fn compare_jobs(tally: &mut Tally, rng: &mut Rng, network: &Network) {
+    let valid = generate_job::valid(rng, &network.parents, &network.costs);
     compare_job(tally, rng, &valid.write());
     let mut rows = valid.clone();
     for _ in 0..1 + rng.below(2) {
@@ -183,6 +203,10 @@ fn compare_definitions(tally: &mut Tally, rng: &mut Rng, tree: &Tree) {
         return;
     }
     let mut case = |name, agree| tally.case(name, 0, [agree, true], true);
+    case(
+        "definition of the whole cost",
+        brute::whole(tree) == tree.whole(),
+    );
     case("definition of needs", brute::needs(tree) == tree.needs());
     let costs = brute::group_costs(tree);
     let right = |g: usize| tree.group_cost(&brute::group(tree, g)) == costs[g];

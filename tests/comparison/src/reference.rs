@@ -14,30 +14,60 @@ pub struct Refusal {
 
 pub type Answer<T> = Result<T, Refusal>;
 
-pub fn refuse<T>(number: u32, place: usize) -> Answer<T> {
-    Err(Refusal {
+fn refusal(number: u32, place: usize) -> Refusal {
+    Refusal {
         number,
         place,
         shortfall: 0,
-    })
+    }
 }
 
-pub fn check_tree(parents: &[u16], costs: &[u32]) -> Answer<()> {
-    if parents.is_empty() || parents.len() > ARCS {
-        return refuse(1, 0);
-    }
-    if parents.len() != costs.len() {
-        return refuse(2, 0);
-    }
-    for (arc, (&parent, &cost)) in (1..).zip(parents.iter().zip(costs)) {
-        if usize::from(parent) >= arc {
-            return refuse(3, arc);
+pub fn refuse<T>(number: u32, place: usize) -> Answer<T> {
+    Err(refusal(number, place))
+}
+
+/// The vertices that some parent entry names, in rising order.
+fn named(parents: &[u16]) -> Vec<usize> {
+    let mut named: Vec<usize> = parents.iter().map(|&p| usize::from(p)).collect();
+    named.sort_unstable();
+    named
+}
+
+/// The marks of a tree with a member at every dead end.
+pub fn dead_ends(parents: &[u16]) -> Vec<u16> {
+    let named = named(parents);
+    let mark = |vertex| u16::from(named.binary_search(&vertex).is_err());
+    (1..=parents.len()).map(mark).collect()
+}
+
+/// All faults of a tree's lists, in the order of the refusals.
+pub fn tree_faults(parents: &[u16], costs: &[u32], marks: &[u16]) -> Vec<Refusal> {
+    let mut faults = Vec::new();
+    let mut note = |fault: bool, number, place| {
+        if fault {
+            faults.push(refusal(number, place));
         }
-        if cost > COST {
-            return refuse(4, arc);
-        }
+    };
+    let arcs = parents.len();
+    note(arcs == 0 || arcs > ARCS, 1, 0);
+    note(costs.len() != arcs || marks.len() != arcs, 2, 0);
+    let named = named(parents);
+    for arc in 1..=arcs.min(costs.len()).min(marks.len()) {
+        let mark = marks[arc - 1];
+        note(usize::from(parents[arc - 1]) >= arc, 3, arc);
+        note(costs[arc - 1] > COST, 4, arc);
+        note(mark > 1, 16, arc);
+        note(mark == 1 && named.binary_search(&arc).is_ok(), 17, arc);
     }
-    Ok(())
+    note(!marks.contains(&1), 18, 0);
+    faults
+}
+
+pub fn check_tree(parents: &[u16], costs: &[u32], marks: &[u16]) -> Answer<()> {
+    match tree_faults(parents, costs, marks).first() {
+        Some(&fault) => Err(fault),
+        None => Ok(()),
+    }
 }
 
 pub fn check_caps(members: usize, caps: &[u64]) -> Answer<()> {
@@ -77,18 +107,14 @@ pub struct Tree {
 }
 
 impl Tree {
-    pub fn new(parents: &[u16], costs: &[u32]) -> Answer<Tree> {
-        check_tree(parents, costs)?;
+    pub fn new(parents: &[u16], costs: &[u32], marks: &[u16]) -> Answer<Tree> {
+        check_tree(parents, costs, marks)?;
         let arcs = parents.len();
         let mut parent = vec![0];
         parent.extend(parents.iter().map(|&p| usize::from(p)));
         let mut cost = vec![0];
         cost.extend(costs.iter().map(|&c| u64::from(c)));
-        let mut childless = vec![true; arcs + 1];
-        for arc in 1..=arcs {
-            childless[parent[arc]] = false;
-        }
-        let members: Vec<usize> = (1..=arcs).filter(|&v| childless[v]).collect();
+        let members: Vec<usize> = (1..=arcs).filter(|&v| marks[v - 1] == 1).collect();
         let mut users = vec![Vec::new(); arcs + 1];
         for (member, &vertex) in members.iter().enumerate() {
             let mut arc = vertex;
@@ -109,14 +135,21 @@ impl Tree {
         self.parent.len() - 1
     }
 
+    /// The arcs that have a user, from the last down.
+    pub fn used(&self) -> impl Iterator<Item = usize> + '_ {
+        let arcs = (1..=self.arcs()).rev();
+        arcs.filter(|&arc| !self.users[arc].is_empty())
+    }
+
     pub fn whole(&self) -> u64 {
-        self.cost.iter().sum()
+        self.used().map(|arc| self.cost[arc]).sum()
     }
 
     /// The need of each arc, entry 0 being arc 1's.
     pub fn needs(&self) -> Vec<u64> {
-        let mut need = self.cost.clone();
-        for arc in (1..=self.arcs()).rev() {
+        let mut need = vec![0; self.arcs() + 1];
+        for arc in self.used() {
+            need[arc] += self.cost[arc];
             need[self.parent[arc]] += need[arc];
         }
         need.split_off(1)
@@ -177,7 +210,7 @@ impl Tree {
 
     pub fn level(&self, caps: &[u64]) -> Vec<u64> {
         let mut shares = vec![0; self.members.len()];
-        for arc in (1..=self.arcs()).rev() {
+        for arc in self.used() {
             raise(&mut shares, &self.users[arc], caps, self.cost[arc]);
         }
         shares
@@ -185,7 +218,7 @@ impl Tree {
 
     pub fn by_arc(&self) -> Vec<u64> {
         let mut shares = vec![0; self.members.len()];
-        for arc in (1..=self.arcs()).rev() {
+        for arc in self.used() {
             let users = &self.users[arc];
             let count = users.len() as u64;
             for (rank, &member) in users.iter().enumerate() {
@@ -230,22 +263,30 @@ pub enum Verdict {
     Objection(u64, Vec<usize>),
 }
 
-pub fn list_members(parents: &[u16], costs: &[u32], length: usize) -> Answer<Vec<u16>> {
-    let tree = Tree::new(parents, costs)?;
+/// The marks of the dead ends are at fault in no tree, so 1 to 4 are left.
+pub fn mark_dead_ends(parents: &[u16], costs: &[u32], length: usize) -> Answer<Vec<u16>> {
+    let marks = dead_ends(parents);
+    check_tree(parents, costs, &marks)?;
+    check_output(length, marks.len())?;
+    Ok(marks)
+}
+
+pub fn list_members(tree: Answer<Tree>, length: usize) -> Answer<Vec<u16>> {
+    let tree = tree?;
     check_output(length, tree.members.len())?;
     Ok(tree.members.iter().map(|&v| v as u16).collect())
 }
 
-pub fn list_needs(parents: &[u16], costs: &[u32], length: usize) -> Answer<(Tree, Vec<u64>)> {
-    let tree = Tree::new(parents, costs)?;
+pub fn list_needs(tree: Answer<Tree>, length: usize) -> Answer<(Tree, Vec<u64>)> {
+    let tree = tree?;
     check_output(length, tree.arcs())?;
     let needs = tree.needs();
     Ok((tree, needs))
 }
 
 /// The group's size and cost.
-pub fn group_cost(parents: &[u16], costs: &[u32], group: &[u64; 16]) -> Answer<(usize, u64)> {
-    let tree = Tree::new(parents, costs)?;
+pub fn group_cost(tree: Answer<Tree>, group: &[u64; 16]) -> Answer<(usize, u64)> {
+    let tree = tree?;
     let bits = (0..1024).filter(|j| group[j / 64] & (1 << (j % 64)) != 0);
     let bits: Vec<usize> = bits.collect();
     match bits.iter().find(|&&j| j >= tree.members.len()) {
@@ -254,8 +295,8 @@ pub fn group_cost(parents: &[u16], costs: &[u32], group: &[u64; 16]) -> Answer<(
     }
 }
 
-pub fn audit(parents: &[u16], costs: &[u32], proposal: &[i64]) -> Answer<Verdict> {
-    let tree = Tree::new(parents, costs)?;
+pub fn audit(tree: Answer<Tree>, proposal: &[i64]) -> Answer<Verdict> {
+    let tree = tree?;
     check_proposal(tree.members.len(), proposal)?;
     let difference = proposal.iter().sum::<i64>() - tree.whole() as i64;
     if difference != 0 {
@@ -267,21 +308,16 @@ pub fn audit(parents: &[u16], costs: &[u32], proposal: &[i64]) -> Answer<Verdict
     })
 }
 
-pub fn split_level(
-    parents: &[u16],
-    costs: &[u32],
-    caps: &[u64],
-    length: usize,
-) -> Answer<Vec<u64>> {
-    let tree = Tree::new(parents, costs)?;
+pub fn split_level(tree: Answer<Tree>, caps: &[u64], length: usize) -> Answer<Vec<u64>> {
+    let tree = tree?;
     check_caps(tree.members.len(), caps)?;
     check_output(length, tree.members.len())?;
     tree.check_short(caps)?;
     Ok(tree.level(caps))
 }
 
-pub fn split_by_arc(parents: &[u16], costs: &[u32], length: usize) -> Answer<Vec<u64>> {
-    let tree = Tree::new(parents, costs)?;
+pub fn split_by_arc(tree: Answer<Tree>, length: usize) -> Answer<Vec<u64>> {
+    let tree = tree?;
     check_output(length, tree.members.len())?;
     Ok(tree.by_arc())
 }

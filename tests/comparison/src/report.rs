@@ -16,7 +16,7 @@ fn joined(members: &[usize]) -> String {
 }
 
 fn verdict(job: &Job) -> String {
-    match reference::audit(&job.parents, &job.costs, &job.proposals).unwrap() {
+    match reference::audit(job.tree(), &job.proposals).unwrap() {
         Verdict::Pass => "pass".into(),
         Verdict::WrongTotal(difference) => format!("total {difference}"),
         Verdict::Objection(amount, group) => {
@@ -27,7 +27,7 @@ fn verdict(job: &Job) -> String {
 
 /// The third line, and what each member's line says of the level split.
 fn level(job: &Job, members: usize) -> (String, Vec<String>) {
-    match reference::split_level(&job.parents, &job.costs, &job.caps, members) {
+    match reference::split_level(job.tree(), &job.caps, members) {
         Ok(shares) => ("ok".into(), shares.iter().map(u64::to_string).collect()),
         Err(r) => {
             let line = format!("refused {} at {} short {}", r.number, r.place, r.shortfall);
@@ -37,7 +37,7 @@ fn level(job: &Job, members: usize) -> (String, Vec<String>) {
 }
 
 fn accepted(job: &Job) -> String {
-    let tree = reference::Tree::new(&job.parents, &job.costs).unwrap();
+    let tree = job.tree().unwrap();
     let members = tree.members.len();
     let by_arc = tree.by_arc();
     let (line, level) = level(job, members);

@@ -9,11 +9,17 @@ use crate::report;
 use crate::tally::Tally;
 use std::fmt::Debug;
 
-fn network(parents: &[u16], costs: &[u32]) -> Network {
+fn network(parents: &[u16], costs: &[u32], marks: &[u16]) -> Network {
     Network {
         parents: parents.to_vec(),
         costs: costs.to_vec(),
+        marks: marks.to_vec(),
     }
+}
+
+/// T with these marks.
+fn t_with(marks: &[u16]) -> Network {
+    network(&[0, 1, 1, 0], &[6, 1, 5, 4], marks)
 }
 
 fn named<T: Debug + PartialEq>(tally: &mut Tally, found: Answer<T>, expected: Answer<T>) {
@@ -21,51 +27,64 @@ fn named<T: Debug + PartialEq>(tally: &mut Tally, found: Answer<T>, expected: An
     tally.case("table", number, [found, expected], true);
 }
 
-fn check(tally: &mut Tally, parents: &[u16], costs: &[u32], expected: Answer<()>) {
-    named(tally, reference::check_tree(parents, costs), expected);
-    network(parents, costs).check_tree(tally);
+fn check(tally: &mut Tally, n: Network, expected: Answer<()>) {
+    named(tally, n.tree().map(|_| ()), expected);
+    n.check_tree(tally);
+}
+
+fn dead_ends(tally: &mut Tally, n: &Network, expected: &[u16]) {
+    let found = reference::mark_dead_ends(&n.parents, &n.costs, expected.len());
+    named(tally, found, Ok(expected.to_vec()));
+    n.mark_dead_ends(tally, &vec![77; expected.len()]);
+}
+
+fn members(tally: &mut Tally, n: &Network, expected: &[u16]) {
+    let found = reference::list_members(n.tree(), expected.len());
+    named(tally, found, Ok(expected.to_vec()));
+    n.list_members(tally, &vec![77; expected.len()]);
 }
 
 /// The group has bits in its first word alone.
 fn group(tally: &mut Tally, n: &Network, word: u64, expected: Answer<(usize, u64)>) {
     let mut words = [0; 16];
     words[0] = word;
-    let found = reference::group_cost(&n.parents, &n.costs, &words);
+    let found = reference::group_cost(n.tree(), &words);
     named(tally, found, expected);
     n.group_cost(tally, &words);
 }
 
-fn needs(tally: &mut Tally, n: &Network, expected: &[u64]) {
-    let found = reference::list_needs(&n.parents, &n.costs, expected.len());
-    let needs = found.map(|(_, needs)| needs);
-    named(tally, needs, Ok(expected.to_vec()));
+fn needs(tally: &mut Tally, n: &Network, whole: u64, expected: &[u64]) {
+    let found = reference::list_needs(n.tree(), expected.len());
+    let needs = found.map(|(tree, needs)| (tree.whole(), needs));
+    named(tally, needs, Ok((whole, expected.to_vec())));
     n.list_needs(tally, &vec![77; expected.len()]);
 }
 
 fn audit(tally: &mut Tally, n: &Network, proposal: &[i64], expected: Verdict) {
-    let found = reference::audit(&n.parents, &n.costs, proposal);
+    let found = reference::audit(n.tree(), proposal);
     named(tally, found, Ok(expected));
     n.audit(tally, proposal);
 }
 
 fn level(tally: &mut Tally, n: &Network, caps: &[u64], expected: Answer<Vec<u64>>) {
-    let found = reference::split_level(&n.parents, &n.costs, caps, caps.len());
+    let found = reference::split_level(n.tree(), caps, caps.len());
     named(tally, found, expected);
     n.split_level(tally, caps, &vec![77; caps.len()]);
 }
 
 fn by_arc(tally: &mut Tally, n: &Network, expected: &[u64]) {
-    let found = reference::split_by_arc(&n.parents, &n.costs, expected.len());
+    let found = reference::split_by_arc(n.tree(), expected.len());
     named(tally, found, Ok(expected.to_vec()));
     n.split_by_arc(tally, &vec![77; expected.len()]);
 }
 
 pub fn compare(tally: &mut Tally) {
-    let t = network(&[0, 1, 1, 0], &[6, 1, 5, 4]);
+    let t = t_with(&[0, 1, 1, 1]);
+    dead_ends(tally, &t, &[0, 1, 1, 1]);
     for (word, size, cost) in [(0, 0, 0), (1, 1, 7), (3, 2, 12), (6, 2, 15)] {
         group(tally, &t, word, Ok((size, cost)));
     }
-    needs(tally, &t, &[12, 1, 5, 4]);
+    needs(tally, &t, 16, &[12, 1, 5, 4]);
     audit(tally, &t, &[7, 5, 4], Verdict::Pass);
     audit(tally, &t, &[8, 4, 4], Verdict::Objection(1, vec![0]));
     audit(tally, &t, &[8, 4, 5], Verdict::WrongTotal(1));
@@ -79,23 +98,57 @@ pub fn compare(tally: &mut Tally) {
     };
     level(tally, &t, &[3, 8, 100], Err(short));
     by_arc(tally, &t, &[4, 8, 4]);
-    let u = network(&[0, 1, 1], &[7, 0, 0]);
+    let u = network(&[0, 1, 1], &[7, 0, 0], &[0, 1, 1]);
     by_arc(tally, &u, &[4, 3]);
     level(tally, &u, &[3, 100], Ok(vec![3, 4]));
-    let w = network(&[0, 1, 1, 0], &[10, 1, 1, 8]);
+    let w = network(&[0, 1, 1, 0], &[10, 1, 1, 8], &[0, 1, 1, 1]);
     audit(tally, &w, &[7, 7, 6], Verdict::Objection(2, vec![0, 1]));
+    spare(tally);
     limits(tally, &t);
+    marks(tally);
     report_on(tally, t);
 }
 
+/// T with nobody at vertex 3.
+fn spare(tally: &mut Tally) {
+    let t = t_with(&[0, 1, 0, 1]);
+    members(tally, &t, &[2, 4]);
+    needs(tally, &t, 11, &[7, 1, 0, 4]);
+    group(tally, &t, 1, Ok((1, 7)));
+    group(tally, &t, 1 << 2, refuse(5, 2));
+    audit(tally, &t, &[7, 4], Verdict::Pass);
+    audit(tally, &t, &[6, 5], Verdict::Objection(1, vec![1]));
+    audit(tally, &t, &[12, 4], Verdict::WrongTotal(5));
+    level(tally, &t, &[100, 100], Ok(vec![7, 4]));
+    by_arc(tally, &t, &[7, 4]);
+}
+
 fn limits(tally: &mut Tally, t: &Network) {
-    check(tally, &[0], &[1_000_000_000], Ok(()));
-    check(tally, &[0], &[1_000_000_001], refuse(4, 1));
-    check(tally, &[1], &[0], refuse(3, 1));
-    check(tally, &[0; 1_023], &[0; 1_023], Ok(()));
-    check(tally, &[0; 1_024], &[0; 1_024], refuse(1, 0));
+    check(tally, network(&[0], &[1_000_000_000], &[1]), Ok(()));
+    let dear = network(&[0], &[1_000_000_001], &[1]);
+    check(tally, dear, refuse(4, 1));
+    check(tally, network(&[1], &[0], &[1]), refuse(3, 1));
+    let star = |arcs| network(&vec![0; arcs], &vec![0; arcs], &vec![1; arcs]);
+    check(tally, star(1_023), Ok(()));
+    check(tally, star(1_024), refuse(1, 0));
     group(tally, t, 1 << 2, Ok((1, 4)));
     group(tally, t, 1 << 3, refuse(5, 3));
+}
+
+/// T with marks that are refused.
+fn marks(tally: &mut Tally) {
+    for (marks, expected) in [
+        (&[0, 1, 1][..], refuse(2, 0)),
+        (&[0, 1, 1, 1, 0], refuse(2, 0)),
+        (&[0, 1, 2, 1], refuse(16, 3)),
+        (&[0, 1, 65_535, 1], refuse(16, 3)),
+        (&[1, 1, 1, 1], refuse(17, 1)),
+        (&[1, 2, 0, 0], refuse(17, 1)),
+        (&[0, 0, 0, 2], refuse(16, 4)),
+        (&[0, 0, 0, 0], refuse(18, 0)),
+    ] {
+        check(tally, t_with(marks), expected);
+    }
 }
 
 /// T with no note, caps 100 and the proposal 8 4 4.

@@ -1,6 +1,6 @@
 //! The count of cases and of differences.
 
-use std::collections::BTreeMap;
+use std::collections::{BTreeMap, BTreeSet};
 use std::fmt::Debug;
 
 /// Differences that are shown in full.
@@ -10,6 +10,8 @@ const SHOWN: u64 = 20;
 pub struct Tally {
     /// The cases of each entry by refusal number, 0 for none.
     pub cases: BTreeMap<&'static str, BTreeMap<u32, u64>>,
+    /// The rare cases that were met.
+    pub met: BTreeSet<String>,
     pub differences: u64,
     /// The seed of the inputs at hand.
     pub seed: u64,

@@ -21,8 +21,8 @@ cast-vertex-or-source c = omega (arith, c .shared-slice-known2 .given (c .before
 
 array-write-has-child : tie.Need-array-write-has-child Inv-loop μ-loop
 array-write-has-child c =
-    naming-place (now (c .before .before .before .before .before .args .parents)) (c .before .before .before .loop .i)
-    (c .vertex-or-source .ensures)
+    let at = c .before .before .before in
+    naming-place (now (at .before .before .args .parents)) (at .loop .i) (c .vertex-or-source .ensures)
 
 loop-again : tie.Need-loop-again Inv-loop μ-loop
 loop-again c =

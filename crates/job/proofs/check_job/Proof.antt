@@ -4,7 +4,7 @@ use denote.Ref.{now}
 use Rattle.answer_forms.specs.Answer.{accepted}
 use Rattle.answer_forms.proofs.Opened.{opened}
 use Rattle.job_form.specs.Form.{formCheck}
-use Rattle.job_form.proofs.Composed.{stopped, went-on}
+use Rattle.answer_forms.proofs.Composed.{stopped, went-on}
 use Rattle.job_form.proofs.FormAccepted.{form-layout}
 use Rattle.job.specs.JobCheck.{jobCheck}
 use Rattle.job.proofs.check_job.Statement.{statement}

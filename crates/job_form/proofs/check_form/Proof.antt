@@ -5,7 +5,7 @@ use denote.Ref.{now}
 use Rattle.answer_forms.specs.Answer.{accepted}
 use Rattle.answer_forms.proofs.Opened.{opened}
 use Rattle.job_form.specs.Form.{sizeCheck, formCheck}
-use Rattle.job_form.proofs.Composed.{stopped, went-on}
+use Rattle.answer_forms.proofs.Composed.{stopped, went-on}
 use Rattle.job_form.proofs.FormAccepted.{size-accepted}
 use Rattle.job_form.proofs.check_form.Statement.{statement}
 use Rattle.job_form.proofs.check_form.Tie as tie

@@ -1,50 +1,88 @@
--- The answer is that of the arcs not yet looked at.
-use Prim.Native.Nat.{_+_, _-_, _≤_}
-use mathlib.Core.Path.{_≡_, refl, sym, _∙_}
-use lib.ListN.{length, drop}
-use borrow.Author.Needs.{needs}
+-- The arcs that were looked at are accepted.
+use Prim.Native.Nat.{ℕ, suc, _+_, _-_, _≤_}
+use mathlib.Core.Path.{_≡_, refl, sym, ap, _∙_}
+use mathlib.Core.Bool.{false}
+use mathlib.Core.List.{List}
 use native.Mathlib.Omega.{arith}
-use Rattle.answers.specs.Checks.{arcsCheck}
-use Rattle.checks.proofs.Arcs.{arcs-on, arcs-stop, arcs-end}
+use borrow.Author.Needs.{needs}
+use lib.ListN.{length, getD}
+use denote.Ref.{now}
+use Rattle.answer_forms.specs.Checked.{checkOf}
+use Rattle.limits.specs.Limits.{mostArcs}
+use Rattle.game.specs.Tree.{hasChild}
+use Rattle.answer_forms.specs.Answer.{Check, accepted, _then_}
+use Rattle.answers.specs.Checks.{arcByArc, arcCheck, markCheck}
+use Rattle.checks.proofs.Arcs.{marked-here, arcs-on, arcs-stop}
 use Rattle.checks.proofs.tree.check_arcs.Statement.{statement}
 use Rattle.checks.proofs.tree.check_arcs.Tie as tie
 
+abbrev at-arc : List ℕ → List ℕ → List ℕ → ℕ → Check
+at-arc parents costs marks k = arcCheck parents costs k then markCheck parents marks k
+
 abbrev Inv-loop : tie.InvT-loop
-Inv-loop parents costs i₀ i =
+Inv-loop parents costs marks has-child i₀ i =
     (i ≤ length parents)
+    × (length parents ≤ mostArcs)
     × (length parents ≡ length costs)
-    × (arcsCheck 1 parents costs ≡ arcsCheck (i + 1) (drop i parents) (drop i costs))
+    × (length parents ≡ length marks)
+    × ((v : ℕ) → 1 ≤ v → v ≤ mostArcs → getD has-child v false ≡ hasChild parents v)
+    × (arcByArc (at-arc parents costs marks) i ≡ accepted)
 
 abbrev μ-loop : tie.MeasureT-loop
-μ-loop parents costs i₀ i = length parents - i
+μ-loop parents costs marks has-child i₀ i = length parents - i
 
 loop-holds : tie.Need-loop-holds Inv-loop μ-loop
-loop-holds c = (search needs, search needs, refl)
+unfolding arcByArc
+loop-holds c =
+    let pre = c .before .before .before .before .pre in
+    (omega arith, pre .0, pre .1 .0, pre .1 .1, c .find-children .ensures, refl)
 
--- the turn's start, from where its arc was looked at
-abbrev begun : tie.After-check-arc Inv-loop μ-loop → tie.At-loop Inv-loop μ-loop
-begun c = c .before .before .before .before
+array-read-check-at : tie.Need-array-read-check-at Inv-loop μ-loop
+array-read-check-at c = let at = c .before .before .before .before .loop in omega (arith, at .inv .1)
+
+-- the turn's start, from where its arc was looked at, and the start
+abbrev begun : tie.After-check-at Inv-loop μ-loop → tie.At-loop Inv-loop μ-loop
+begun c = c .before .before .before .before .before
+
+abbrev start : tie.At-loop Inv-loop μ-loop → tie.Start Inv-loop μ-loop
+start c = c .before .before .before .before .before
+
+-- what was found at the turn's arc
+here : (c : tie.After-check-at Inv-loop μ-loop)
+    → let args = start (begun c) .args in
+    checkOf (c .check-at .result)
+    ≡ at-arc (now (args .parents)) (now (args .costs)) (now (args .marks)) (suc (begun c .loop .i))
+here c =
+    let at = begun c .loop in
+    let args = start (begun c) .args in
+    marked-here (now (args .parents)) (now (args .costs)) (at .i) (now (args .marks)) _
+    (at .inv .4 (at .i + 1) (omega arith) (omega (arith, at .inv .1)))
+    (c .check-at .ensures)
 
 returns : tie.Need-returns Inv-loop μ-loop
 returns c =
     let checked = c .before .before in
-    let inv = begun checked .loop .inv in
-    arcs-stop _ _ _ _ (omega arith) (omega arith) (checked .check-arc .ensures) (inv .2) (c .enum-told2 .given .1)
-
-loop-less : tie.Need-loop-less Inv-loop μ-loop
-loop-less c = omega arith
+    let at = begun checked .loop in
+    arcs-stop _ (at .i) {k = at .i + 1} _ (omega arith) (at .inv .5) (here checked) (c .enum-told2 .given .1) _
+    (omega arith)
 
 loop-again : tie.Need-loop-again Inv-loop μ-loop
 loop-again c =
     let checked = c .before .before in
-    let inv = begun checked .loop .inv in (
+    let at = begun checked .loop in (
       omega arith,
-      inv .1,
-      arcs-on _ _ _ _ (omega arith) (omega arith) (checked .check-arc .ensures) (inv .2) (c .enum-told .given .1),
+      at .inv .1,
+      at .inv .2,
+      at .inv .3,
+      at .inv .4,
+      arcs-on _ (at .i) _ (omega arith) (at .inv .5) (here checked) (c .enum-told .given .1),
     )
 
 returns-2 : tie.Need-returns-2 Inv-loop μ-loop
-returns-2 c = sym (c .before .loop .inv .2 ∙ arcs-end _ _ _ _ (c .loop-test .left))
+returns-2 c =
+    let at = c .before .loop in
+    let all : at .i ≡ length (now (start (c .before) .args .parents)) = omega (arith, at .inv .0) in
+    sym (ap (arcByArc _) (sym all) ∙ at .inv .5)
 
 pub check-arcs-spec : {M : Type 1} → statement M
 check-arcs-spec =
@@ -52,17 +90,22 @@ check-arcs-spec =
     (tie.spec
     Inv-loop
     μ-loop
+    (λ c κs. search needs)
     loop-holds
     (λ c. search needs)
     (λ c. search needs)
     (λ c. search needs)
     (λ c. search needs)
     (λ c. search needs)
+    (λ c. search needs)
+    (λ c. search needs)
+    (λ c. search needs)
+    array-read-check-at
     (λ c κs. search needs)
     (λ c. search needs)
     (λ c. search needs)
     returns
     (λ c. search needs)
-    loop-less
+    (λ c. search needs)
     loop-again
     returns-2)

@@ -6,10 +6,16 @@ use Rattle.answer_forms.specs.Answer.{accepted}
 use Rattle.answers.specs.Checks.{treeCheck}
 use Rattle.answers.specs.Members.{memberCountAnswer}
 use Rattle.answer_forms.proofs.Opened.{opened, turned-away}
-use Rattle.engine.proofs.TreeAccepted.{accepted-few, marks-lent, marks-room, marks-part, marks-count}
-use Rattle.engine.proofs.TreeAccepted.{dead-ends-marked}
+use Rattle.engine.proofs.TreeAccepted.{accepted-count}
 use Rattle.engine.proofs.members.count_members.Statement.{statement}
 use Rattle.engine.proofs.members.count_members.Tie as tie
+
+-- what is handed in, and the start from later places
+abbrev tree : tie.Start → Tree
+tree s = treeOf (now (s .args .parents)) (now (s .args .costs)) (now (s .args .marks))
+
+abbrev start-told : tie.After-enum-told → tie.Start
+start-told c = c .before .before .before .before .before .before
 
 returns : tie.Need-returns
 unfolding memberCountAnswer
@@ -17,45 +23,17 @@ returns c =
     rw (turned-away (c .before .before .before .check-tree .ensures) (c .before .enum-told2 .given .1)
     (c .refusal-of .ensures))
 
-abbrev tree : tie.After-enum-told → Tree
-tree c =
-    let given = c .before .before .before .before .before .args in treeOf (now (given .parents)) (now (given .costs))
-
-accepted-tree : (c : tie.After-enum-told) → treeCheck (tree c) ≡ accepted
+accepted-tree : (c : tie.After-enum-told) → treeCheck (tree (start-told c)) ≡ accepted
 accepted-tree c = opened (c .before .before .check-tree .ensures) (c .enum-told .given .1)
-
-part-marks-end : tie.Need-part-marks-end
-part-marks-end c = accepted-few (tree c) (accepted-tree c)
-
-write-dead-ends-requires : tie.Need-write-dead-ends-requires
-write-dead-ends-requires c κs = marks-lent _ (accepted-tree (c .before))
-
-part-count-members-end : tie.Need-part-count-members-end
-part-count-members-end c = marks-room _ (c .before .before .write-dead-ends .ensures) _
 
 returns-2 : tie.Need-returns-2
 unfolding memberCountAnswer
 returns-2 c =
-    let marks = c .before .before .before .before in
-    let ps = tree (marks .before .before) .parents in
-    let counted = rw (marks-part ps (marks .write-dead-ends .ensures)) at (c .count-members .ensures) in
-    rw (accepted-tree (marks .before .before), counted, marks-count ps _ (dead-ends-marked ps))
+    let ok = accepted-tree (c .before) in
+    rw (ok, c .count-members .ensures, accepted-count _ ok)
 
 pub count-members-spec : {M : Type 1} → statement M
 count-members-spec =
     tie.close
-    (tie.spec
-    (λ c κs. search needs)
-    (λ c. search needs)
-    (λ c. search needs)
-    (λ c κs. search needs)
-    returns
-    (λ c. search needs)
-    (λ c. search needs)
-    part-marks-end
-    write-dead-ends-requires
-    (λ c. search needs)
-    (λ c. search needs)
-    part-count-members-end
-    (λ c κs. search needs)
-    returns-2)
+    (tie.spec (λ c κs. search needs) (λ c. search needs) (λ c. search needs)
+    (λ c κs. search needs) returns (λ c κs. search needs) returns-2)

@@ -9,7 +9,7 @@ use Rattle.answers.specs.Level.{capsCheck}
 use Rattle.answer_forms.specs.Checked.{checkOf}
 use Rattle.answer_forms.proofs.Opened.{opened}
 use Rattle.job_bytes.specs.Format.{capAt}
-use Rattle.job_form.proofs.Composed.{stopped, went-on}
+use Rattle.answer_forms.proofs.Composed.{stopped, went-on}
 use Rattle.job.proofs.values.check_shares.Statement.{statement}
 use Rattle.job.proofs.values.check_shares.Tie as tie
 

@@ -11,7 +11,7 @@ use Rattle.answer_forms.specs.Checked.{checkOf}
 use Rattle.answer_forms.proofs.Opened.{opened}
 use Rattle.engine.specs.Outcomes.{memberCountOf}
 use Rattle.job_bytes.specs.Format.{jobMembers}
-use Rattle.job_form.proofs.Composed.{turned-down, stopped, went-on}
+use Rattle.answer_forms.proofs.Composed.{turned-down, stopped, went-on}
 use Rattle.job.specs.JobCheck.{jobTree, treeMembers, countCheck, sharesCheck, valuesCheck}
 use Rattle.job.proofs.Counted.{tree-is, tree-refused, tree-counted, shares-by}
 use Rattle.job.proofs.Accepted.{count-accepted}

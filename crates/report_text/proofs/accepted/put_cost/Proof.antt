@@ -8,7 +8,7 @@ returns : tie.Need-returns
 returns c =
     let put = c .before .before in
     let listed = put .before .before .before in
-    let pre = listed .before .before .before .before .before .before .before .pre in
+    let pre = listed .before .before .before .before .before .before .before .before .pre in
     rw (listed .list-needs .ensures .0 ∙ needs-found _ (pre .0) _ (pre .1 .0)) at (put .put-needs .ensures)
 
 pub put-cost-spec : {M : Type 1} → statement M

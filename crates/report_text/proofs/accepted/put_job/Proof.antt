@@ -1,72 +1,65 @@
 use Prim.Native.Nat.{ℕ, _-_, _≤_}
-use mathlib.Core.Path.{_≡_, ap, _∙_}
-use native.Mathlib.Omega.{arith}
+use mathlib.Core.Path.{_≡_}
+use mathlib.Core.List.{List, _++_}
+use lib.ListN.{length, take}
 use denote.Ref.{now}
-use lib.ListN.{length, take, replicate}
 use Rattle.limits.specs.Limits.{mostArcs}
-use Rattle.game.specs.Tree.{treeOf}
-use Rattle.text.proofs.Pieces.{put-then}
-use Rattle.report_text.specs.Report.{blank}
-use Rattle.report_text.proofs.Found.{few-members, zeros}
+use Rattle.game.specs.Tree.{deadEnds}
+use Rattle.basics.proofs.Lists.{zeros-length}
+use Rattle.answers.proofs.Limits.{tree-limits}
+use Rattle.report_text.proofs.Found.{marks-room, marks-part}
 use borrow.Author.Needs.{needs}
 use Rattle.report_text.proofs.accepted.put_job.Statement.{statement}
 use Rattle.report_text.proofs.accepted.put_job.Tie as tie
 
--- before the parts are lent
-abbrev start : tie.After-slice-known2 → tie.Start
-start c = c .before .before .before .before .before .before .before .before
+few : (c : tie.Start) → length (now (c .args .parents)) ≤ mostArcs
+few c = tree-limits _ (c .pre .0) .arcs
 
-few : (c : tie.Start) → length (now (c .args .proposed)) ≤ mostArcs
-few c = few-members _ _ (c .pre .0) (c .pre .1 .0)
+part-marks-end : tie.Need-part-marks-end
+part-marks-end c = few (c .before .before .before .before)
 
-part-vertices-end : tie.Need-part-vertices-end
-part-vertices-end c = omega (arith, few (start c))
+abbrev start : tie.After-mark-dead-ends → tie.Start
+start c = c .before .before .before .before .before .before
 
-part-by-arc-end : tie.Need-part-by-arc-end
-part-by-arc-end c = omega (arith, few (start (c .before)))
+abbrev parents : tie.After-mark-dead-ends → List ℕ
+parents c = now (start c .args .parents)
 
-part-shares-end : tie.Need-part-shares-end
-part-shares-end c = omega (arith, few (start (c .before .before)))
+part-put-marked-end : tie.Need-part-put-marked-end
+part-put-marked-end c =
+    let marks = c .before .before in
+    let s = start marks in
+    marks-room _ _ (s .pre .0) _ (zeros-length mostArcs _ (few s)) (marks .mark-dead-ends .kept .1 .1 .0)
+    (marks .mark-dead-ends .ensures .1) _
 
-put-tree-requires : tie.Need-put-tree-requires
-put-tree-requires c κs =
-    let pre = c .before .before .before .before .before .pre in
-    (pre .0, (pre .1 .0, omega (arith, pre .1 .1)))
+-- the front of the local list
+marks : (c : tie.After-mark-dead-ends) (rest : List ℕ)
+    → take (length (parents c) - 0) (c .mark-dead-ends .last .1 .1 .0 ++ rest) ≡ deadEnds (parents c)
+marks c =
+    marks-part _ _ (start c .pre .0) _ (zeros-length mostArcs _ (few (start c))) (c .mark-dead-ends .kept .1 .1 .0)
+    (c .mark-dead-ends .ensures .1)
 
-blanks : (c : tie.Start)
-    → take {A = ℕ} (length (now (c .args .proposed)) - 0) (replicate mostArcs 0)
-    ≡ blank (treeOf (now (c .args .parents)) (now (c .args .costs)))
-blanks c = zeros _ (few c) ∙ ap (λ (n : ℕ). replicate n 0) (c .pre .1 .0)
-
-put-splits-requires : tie.Need-put-splits-requires
-put-splits-requires c κs =
-    let known = c .before .before .before .before in
-    let zeros = blanks (start known) in
-    let pre = start known .pre in
-    let most = few (start known) in
-    let first = known .before .before .put-tree .ensures in
-    (pre .0, (pre .1 .0, (zeros, (zeros, (zeros, omega (arith, most, pre .1 .1, first .0 .same-length, first .1))))))
+put-marked-requires : tie.Need-put-marked-requires
+put-marked-requires c κs =
+    let written = c .before .before .before .before in
+    let pre = start written .pre in
+    (rw (marks written) (pre .0), (rw (marks written) (pre .1 .0), pre .1 .1))
 
 returns : tie.Need-returns
 returns c =
-    let splits = c .before .before .before .before .before in
-    let known = splits .before .before .before .before .before in
-    put-then (known .before .before .put-tree .ensures .0) (splits .put-splits .ensures)
+    let put = c .before .before in
+    rw (marks (put .before .before .before .before .before)) at (put .put-marked .ensures)
 
 pub put-job-spec : {M : Type 1} → statement M
 put-job-spec =
     tie.close
     (tie.spec
-    put-tree-requires
     (λ c. search needs)
     (λ c. search needs)
-    part-vertices-end
+    part-marks-end
+    (λ c κs. search needs)
     (λ c. search needs)
     (λ c. search needs)
-    part-by-arc-end
-    (λ c. search needs)
-    (λ c. search needs)
-    part-shares-end
-    put-splits-requires
+    part-put-marked-end
+    put-marked-requires
     (λ c. search needs)
     returns)

@@ -30,19 +30,25 @@ abbrev listed : tie.After-put-members-arg4 → tie.After-list-members
 listed c = divided c .before .before .before .before
 
 abbrev start : tie.After-put-members-arg4 → tie.Start
-start c = listed c .before .before .before .before .before .before .before .before .before
+start c = listed c .before .before .before .before .before .before .before .before .before .before
 
 abbrev tree : tie.After-put-members-arg4 → Tree
-tree c = treeOf (now (start c .args .parents)) (now (start c .args .costs))
+tree c = treeOf (now (start c .args .parents)) (now (start c .args .costs)) (now (start c .args .marks))
+
+put-level-requires : tie.Need-put-level-requires
+put-level-requires c κs =
+    let level = c .before .before .before in
+    let first = level .before .before .before .before .before .before .before .before in
+    omega (arith, first .before .before .before .before .before .before .before .before .before .before .pre)
 
 put-members-requires : tie.Need-put-members-requires
 put-members-requires c κs =
     let n = memberCount (network (tree c)) in
     let count = start c .pre .1 .0 in
     let zeros = start c .pre .1 .1 in
-    let vertices = listed c .list-members .kept .1 .1 .0 ∙ entries n (zeros .0) in
-    let by-arc = divided c .split-by-arc .kept .1 .1 .0 ∙ entries n (zeros .1 .0) in
-    let shares = levelled c .split-level .kept .1 .1 .1 .0 ∙ entries n (zeros .1 .1 .0) in
+    let vertices = listed c .list-members .kept .1 .1 .1 .0 ∙ entries n (zeros .0) in
+    let by-arc = divided c .split-by-arc .kept .1 .1 .1 .0 ∙ entries n (zeros .1 .0) in
+    let shares = levelled c .split-level .kept .1 .1 .1 .1 .0 ∙ entries n (zeros .1 .1 .0) in
     let level = put c .put-level .ensures in (
       omega (arith, vertices, count),
       (
@@ -72,7 +78,7 @@ put-splits-spec =
     (λ c κs. search needs)
     (λ c κs. search needs)
     (λ c κs. search needs)
-    (λ c κs. search needs)
+    put-level-requires
     put-members-requires
     (λ c. search needs)
     (λ c. search needs)

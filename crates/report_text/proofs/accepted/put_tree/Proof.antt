@@ -9,15 +9,15 @@ use Rattle.report_text.proofs.accepted.put_tree.Statement.{statement}
 use Rattle.report_text.proofs.accepted.put_tree.Tie as tie
 
 part-needs-end : tie.Need-part-needs-end
-part-needs-end c = omega (arith, tree-limits _ (c .before .before .before .pre .0) .arcs)
+part-needs-end c = omega (arith, tree-limits _ (c .before .before .before .before .pre .0) .arcs)
 
 put-cost-requires : tie.Need-put-cost-requires
 put-cost-requires c κs =
-    let start = c .before .before .before .before .before in
+    let start = c .before .before .before .before .before .before in
     (start .pre .0, (zeros-length mostArcs _ (tree-limits _ (start .pre .0) .arcs), omega (arith, start .pre)))
 
 abbrev start : tie.After-put-cost → tie.Start
-start c = c .before .before .before .before .before .before
+start c = c .before .before .before .before .before .before .before
 
 put-audit-requires : tie.Need-put-audit-requires
 put-audit-requires c κs =

@@ -2,8 +2,8 @@ use native.Mathlib.Omega.{arith}
 use borrow.Author.Needs.{needs}
 use borrow.Author.Tests.{le-leb, lt-leb, lt-ltb, le-ltb}
 use Rattle.limits.specs.Limits.{mostCost}
-use Rattle.checks.proofs.tree.check_arc.Statement.{statement}
-use Rattle.checks.proofs.tree.check_arc.Tie as tie
+use Rattle.checks.proofs.arc.check_arc.Statement.{statement}
+use Rattle.checks.proofs.arc.check_arc.Tie as tie
 
 returns : tie.Need-returns
 returns c =

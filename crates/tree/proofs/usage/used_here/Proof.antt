@@ -1,6 +1,6 @@
 use borrow.Author.Tests.{eq-eqb, ne-eqb}
-use Rattle.tree.proofs.group.used_here.Statement.{statement}
-use Rattle.tree.proofs.group.used_here.Tie as tie
+use Rattle.tree.proofs.usage.used_here.Statement.{statement}
+use Rattle.tree.proofs.usage.used_here.Tie as tie
 
 returns : tie.Need-returns
 returns c = rw (eq-eqb _ _ (c .if1 .taken))

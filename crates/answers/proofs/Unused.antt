@@ -1,0 +1,156 @@
+-- Nobody pays for an arc that nobody uses.
+use Prim.Native.Nat.{ℕ, suc}
+use mathlib.Core.Path.{_≡_, sym, ap, ap₂, _∙_}
+use mathlib.Core.Bool.{true, false}
+use mathlib.Core.Logic.{⊎-elim}
+use mathlib.Core.List.{List}
+use native.Mathlib.Nat.{zero-div, zero-mod}
+use native.Mathlib.Omega.{arith}
+use borrow.Author.Tests.{le-ltb}
+use lib.ListN.{length}
+use Rattle.basics.specs.Sum.{list, size}
+use Rattle.basics.proofs.Bools.{both, clash, not-so, and-both, and-first, and-second, pick-yes, pick-no, pick-zero}
+use Rattle.basics.proofs.Bools.{pick-same}
+use Rattle.basics.proofs.Sums.{In, sum-zero}
+use Rattle.basics.proofs.Lists.{list-is, list-at, list-length}
+use Rattle.game.specs.Network.{Network, atOrBelow, used, everyone, groupCost, sumBelow, need, wholeCost, memberCount}
+use Rattle.game.specs.Network.{members}
+use Rattle.game.specs.Tree.{Tree, treeOf, ofArc, networkOf, counted, countedCosts, network}
+use Rattle.game.specs.Core.{users}
+use Rattle.game.specs.ByArc.{byArc}
+use Rattle.game.specs.Level.{units, level}
+use Rattle.game.specs.Group.{wordsOf, byNumber}
+use Rattle.game.specs.Search.{isIn, named}
+use Rattle.basics.specs.Bit.{bit}
+use Rattle.game.proofs.Below.{Rooted, below-trans}
+use Rattle.game.proofs.Groups.{used-of, used-by}
+use Rattle.game.proofs.Counted.{unused-free}
+use Rattle.answer_forms.specs.Answer.{Check, answer, written, _then_}
+use Rattle.answers.specs.Checks.{treeCheck, groupCheck, outputCheck, proposalCheck}
+use Rattle.answers.specs.Members.{memberCountAnswer, membersAnswer, membersList}
+use Rattle.answers.specs.Needs.{needsAnswer, needsList}
+use Rattle.answers.specs.GroupCost.{groupCostAnswer}
+use Rattle.answers.specs.Audit.{verdict, wordsBeside, auditAnswer, auditWords}
+use Rattle.answers.specs.Level.{LevelAnswer, capsCheck, shortArc, splitOr9, levelOr, listAfter, levelAnswer}
+use Rattle.answers.specs.Level.{levelList}
+use Rattle.answers.specs.ByArc.{byArcAnswer, byArcList}
+use Rattle.answers.specs.Unused.{UnusedStatement, DifferUnused, StubStatement}
+use Rattle.answers.proofs.Accepted.{tree-accepted}
+
+module _ (n : Network) (rooted : Rooted n) (k : ℕ) (unused : used n everyone k ≡ false) where
+  -- nobody uses an arc below it either
+  unused-below : (e : ℕ) → atOrBelow n k e ≡ true → used n everyone e ≡ false
+  unused-below e below =
+      not-so (used n everyone e)
+      (λ u.
+      let b = used-by n everyone e u in
+      clash
+      (used-of n {g = everyone} {k = k}
+      (record {
+        by = b .by;
+        within = b .within;
+        chosen = b .chosen;
+        uses =
+            and-both (and-first (n .member (b .by)) (atOrBelow n e (b .by)) (b .uses))
+            (below-trans n rooted k e (b .by) below
+            (and-second (n .member (b .by)) (atOrBelow n e (b .by)) (b .uses)));
+      }))
+      unused)
+
+pub unused-laws : UnusedStatement
+unfolding sumBelow units
+unused-laws t ok k arc unused =
+    record {
+      no-need =
+          sum-zero (length (t .parents))
+          (λ e i.
+          ⊎-elim
+          (λ (b : atOrBelow n k e ≡ true).
+          pick-yes (n .cost e) b ∙ unused-free t e i (unused-below n (tree-accepted t ok .rooted) k unused e b))
+          (λ (b : atOrBelow n k e ≡ false). pick-no (n .cost e) b)
+          (both (atOrBelow n k e)));
+      no-gift =
+          λ j.
+          rw (free, zero-div, zero-mod, le-ltb (size j (users n k)) 0 (omega arith)) (pick-zero (users n k j));
+      no-unit = λ caps shares. ap (λ (c : ℕ). units n caps k c shares) free;
+    }
+  where
+    n : Network
+    n = network t
+
+    free : network t .cost k ≡ 0
+    free = unused-free t k (record { low = arc .first; high = arc .last }) unused
+
+-- costs that agree where an arc is used
+module _ (ps cs ds ms : List ℕ)
+    (agree : (k : ℕ) → In (length ps) k → used (network (treeOf ps cs ms)) everyone k ≡ true → ofArc cs k ≡ ofArc ds k)
+  where
+    counted-same : (k : ℕ) → In (length ps) k → counted (networkOf ps cs ms) k ≡ counted (networkOf ps ds ms) k
+    unfolding used
+    counted-same k i = pick-same (used (networkOf ps cs ms) everyone k) (λ u. agree k i u)
+
+    network-same : network (treeOf ps cs ms) ≡ network (treeOf ps ds ms)
+    unfolding countedCosts
+    network-same =
+        ap (λ (l : List ℕ). networkOf ps l ms)
+        (list-is (counted (networkOf ps ds ms)) 0 (length ps) (countedCosts (treeOf ps cs ms))
+        (list-length (counted (networkOf ps cs ms)) (length ps))
+        (λ i h. list-at (counted (networkOf ps cs ms)) 0 (length ps) i h ∙ counted-same (suc i) (omega arith)))
+
+module _ (s t : Tree) (differ : DifferUnused s t) where
+  -- the first tree with the lists of the second
+  moved : network s ≡ network (treeOf (t .parents) (s .costs) (t .marks))
+  moved =
+      ap₂ (λ (ps ms : List ℕ). network (treeOf ps (s .costs) ms)) (differ .same-parents) (differ .same-marks)
+
+  same-network : network s ≡ network t
+  same-network =
+      moved
+      ∙ network-same (t .parents) (s .costs) (t .costs) (t .marks)
+      (λ k i u.
+      differ .same-used k
+      (omega (arith, ap length (differ .same-parents), i .low, i .high))
+      (ap (λ (n : Network). used n everyone k) moved ∙ u))
+
+pub stubs-free : StubStatement
+unfolding memberCountAnswer membersAnswer membersList needsAnswer needsList groupCostAnswer auditAnswer auditWords
+    levelAnswer levelList byArcAnswer byArcList
+stubs-free s t s-ok t-ok differ =
+    record {
+      check = check;
+      count = by-both (λ c n. answer c (memberCount n));
+      members = λ out. by-both (λ c n. answer (c then outputCheck (memberCount n) out) (memberCount n));
+      members-list = λ out. by-both (λ c n. written (c then outputCheck (memberCount n) out) out (members n));
+      needs = λ out.
+          by-both
+          (λ c n. answer (c then outputCheck (n .arcs) out) (record { whole = wholeCost n; members = memberCount n }));
+      needs-list = λ out.
+          by-both (λ c n. written (c then outputCheck (n .arcs) out) out (list (n .arcs) (need n)));
+      group-cost = λ words.
+          by-both
+          (λ c n.
+          answer (c then groupCheck (memberCount n) words)
+          (record { size = size (memberCount n) (bit words); cost = groupCost n (byNumber n (bit words)) }));
+      audit = λ shares. by-both (λ c n. answer (c then proposalCheck (memberCount n) shares) (verdict n shares));
+      audit-words = λ shares.
+          by-both
+          (λ c n.
+          wordsBeside (answer (c then proposalCheck (memberCount n) shares) (verdict n shares))
+          (wordsOf (isIn (named n shares))));
+      level = λ caps out. by-both (leveled caps out);
+      level-list = λ caps out. by-both (λ c n. listAfter (leveled caps out c n) out (level n caps (n .cost)));
+      by-arc = λ out. by-both (λ c n. answer (c then outputCheck (memberCount n) out) (memberCount n));
+      by-arc-list = λ out. by-both (λ c n. written (c then outputCheck (memberCount n) out) out (byArc n));
+    }
+  where
+    check : treeCheck s ≡ treeCheck t
+    check = s-ok ∙ sym t-ok
+
+    -- an answer looks only at the check and the network
+    by-both : {A : Type 0} (f : Check → Network → A) → f (treeCheck s) (network s) ≡ f (treeCheck t) (network t)
+    by-both f = ap₂ f check (same-network s t differ)
+
+    leveled : List ℕ → List ℕ → Check → Network → LevelAnswer
+    leveled caps out c n =
+        levelOr (c then capsCheck (memberCount n) caps then outputCheck (memberCount n) out)
+        (splitOr9 n caps (shortArc n caps (n .arcs)))

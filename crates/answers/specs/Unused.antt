@@ -1,0 +1,55 @@
+-- Arcs that nobody uses: nobody pays for them.
+use Prim.Native.Nat.{ℕ}
+use mathlib.Core.Path.{_≡_}
+use mathlib.Core.Bool.{true, false}
+use mathlib.Core.List.{List}
+use lib.IntN.{ℤ}
+use Rattle.game.specs.Network.{used, everyone, need}
+use Rattle.game.specs.Tree.{Tree, ofArc, network}
+use Rattle.game.specs.ByArc.{gift}
+use Rattle.game.specs.Level.{units}
+use Rattle.answer_forms.specs.Answer.{accepted}
+use Rattle.answers.specs.Checks.{treeCheck}
+use Rattle.answers.specs.Laws.{ArcOf}
+use Rattle.answers.specs.Members.{memberCountAnswer, membersAnswer, membersList}
+use Rattle.answers.specs.Needs.{needsAnswer, needsList}
+use Rattle.answers.specs.GroupCost.{groupCostAnswer}
+use Rattle.answers.specs.Audit.{auditAnswer, auditWords}
+use Rattle.answers.specs.Level.{levelAnswer, levelList}
+use Rattle.answers.specs.ByArc.{byArcAnswer, byArcList}
+
+-- arc k has need 0, and gives nothing to anyone in either split
+pub record UnusedLaws (t : Tree) (k : ℕ) : Type 0 where
+  pub no-need : need (network t) k ≡ 0
+  pub no-gift : (j : ℕ) → gift (network t) k j ≡ 0
+  pub no-unit : (caps shares : List ℕ) → units (network t) caps k (network t .cost k) shares ≡ shares
+
+abbrev pub UnusedStatement : Type 0
+UnusedStatement = (t : Tree) → treeCheck t ≡ accepted → (k : ℕ) → ArcOf t k → used (network t) everyone k ≡ false
+    → UnusedLaws t k
+
+-- the trees differ only in costs of arcs that nobody uses
+pub record DifferUnused (s t : Tree) : Type 0 where
+  pub same-parents : s .parents ≡ t .parents
+  pub same-marks : s .marks ≡ t .marks
+  pub same-used : (k : ℕ) → ArcOf s k → used (network s) everyone k ≡ true → ofArc (s .costs) k ≡ ofArc (t .costs) k
+
+-- every entry that takes a tree with marks answers the same, and leaves the same lists
+pub record SameAnswers (s t : Tree) : Type 0 where
+  pub check : treeCheck s ≡ treeCheck t
+  pub count : memberCountAnswer s ≡ memberCountAnswer t
+  pub members : (out : List ℕ) → membersAnswer s out ≡ membersAnswer t out
+  pub members-list : (out : List ℕ) → membersList s out ≡ membersList t out
+  pub needs : (out : List ℕ) → needsAnswer s out ≡ needsAnswer t out
+  pub needs-list : (out : List ℕ) → needsList s out ≡ needsList t out
+  pub group-cost : (words : List ℕ) → groupCostAnswer s words ≡ groupCostAnswer t words
+  pub audit : (shares : List ℤ) → auditAnswer s shares ≡ auditAnswer t shares
+  pub audit-words : (shares : List ℤ) → auditWords s shares ≡ auditWords t shares
+  pub level : (caps out : List ℕ) → levelAnswer s caps out ≡ levelAnswer t caps out
+  pub level-list : (caps out : List ℕ) → levelList s caps out ≡ levelList t caps out
+  pub by-arc : (out : List ℕ) → byArcAnswer s out ≡ byArcAnswer t out
+  pub by-arc-list : (out : List ℕ) → byArcList s out ≡ byArcList t out
+
+-- nobody pays for a stub
+abbrev pub StubStatement : Type 0
+StubStatement = (s t : Tree) → treeCheck s ≡ accepted → treeCheck t ≡ accepted → DifferUnused s t → SameAnswers s t

@@ -1,0 +1,39 @@
+"""Arcs without users change no answer: the same cases on the tree without them, where every dead end is marked."""
+import re
+
+from rules import Refusal, all_marked, arc_needs, arc_users, check_tree, member_vertices, whole_cost
+from entries import answer
+
+# the commands whose answers hold no vertex, and no arc but that of refusal 9
+COMPARED = {"check", "count", "group", "audit", "level", "byarc"}
+
+
+def pruned(tree):
+    """The tree of the arcs with users, numbered anew, and what their numbers were."""
+    kept = [arc for arc, users in enumerate(arc_users(tree), 1) if users]
+    number = {0: 0, **{arc: new for new, arc in enumerate(kept, 1)}}
+    parents = [number[tree.parents[arc - 1]] for arc in kept]
+    return all_marked(parents, [tree.costs[arc - 1] for arc in kept]), kept
+
+
+def as_before(line, kept):
+    """The line with the old number of refusal 9's arc."""
+    return re.sub(r"(?<=^refused 9 at )\d+", lambda found: str(kept[int(found[0]) - 1]), line)
+
+
+def check_pruned(case):
+    """Compares the answers, where the tree is accepted and has an arc without users."""
+    command, tree, *rest = case
+    try:
+        check_tree(tree)
+    except Refusal:
+        return
+    small, kept = pruned(tree)
+    if small == tree:
+        return
+    needs = dict(zip(kept, arc_needs(small)))
+    assert [needs.get(arc, 0) for arc in range(1, len(tree.parents) + 1)] == arc_needs(tree), case
+    assert [kept[vertex - 1] for vertex in member_vertices(small)] == member_vertices(tree), case
+    assert whole_cost(small) == sum(small.costs) == whole_cost(tree), case
+    if command in COMPARED:
+        assert as_before(answer((command, small, *rest)), kept) == answer(case), case

@@ -1,0 +1,109 @@
+//! The cases that a run of all rounds is to meet: every refusal of every
+//! entry, faults that stand in one tree, and trees with spare plots.
+
+use crate::reference::{Refusal, Tree};
+use crate::tally::Tally;
+
+const TREE: [u32; 7] = [1, 2, 3, 4, 16, 17, 18];
+
+/// The refusals of each entry, with whether it has those of a tree too.
+#[rustfmt::skip]
+const REFUSALS: [(&str, bool, &[u32]); 13] = [
+    ("check_tree", true, &[]),
+    ("check_caps", false, &[6, 7]),
+    ("check_proposal", false, &[6, 7]),
+    ("mark_dead_ends", false, &[1, 2, 3, 4, 8]),
+    ("count_members", true, &[]),
+    ("list_members", true, &[8]),
+    ("list_needs", true, &[8]),
+    ("group_cost", true, &[5]),
+    ("audit", true, &[6, 7]),
+    ("split_level", true, &[6, 7, 8, 9]),
+    ("split_by_arc", true, &[8]),
+    ("read_job", false, &[10, 11, 12, 13, 14, 1, 3, 4, 15, 7]),
+    ("report", false, &[]),
+];
+
+/// The first two faults of a tree's lists, standing at one arc. 16 and 17
+/// cannot do so.
+const AT_ONE_ARC: [(u32, u32); 5] = [(3, 4), (3, 16), (3, 17), (4, 16), (4, 17)];
+
+/// The same, not at one arc. 17 and 18 cannot meet.
+#[rustfmt::skip]
+const APART: [(u32, u32); 16] = [
+    (1, 2), (2, 3), (2, 4), (2, 16), (2, 17), (2, 18), (4, 3), (16, 3),
+    (16, 4), (16, 17), (17, 3), (17, 4), (17, 16), (3, 18), (4, 18), (16, 18),
+];
+
+/// The arcs of a run that is called long.
+const LONG: usize = 50;
+
+const NO_SPARE: &str = "every dead end marked";
+const SPARE: &str = "a dead end without a member";
+const ONE: &str = "one member and other dead ends";
+const BRANCH: &str = "a branch from the source without users";
+const LAST: &str = "nobody at the last vertex";
+const RUN: &str = "a long run of arcs without users";
+
+fn meeting(first: u32, second: u32, at_one_arc: bool) -> String {
+    let place = if at_one_arc { " at one arc" } else { "" };
+    format!("{first} before {second}{place}")
+}
+
+/// Notes the first two faults of a tree's lists.
+pub fn note_faults(tally: &mut Tally, faults: &[Refusal]) {
+    if let [a, b, ..] = faults {
+        let at_one_arc = a.place == b.place && a.place > 0;
+        tally.met.insert(meeting(a.number, b.number, at_one_arc));
+    }
+}
+
+/// The most arcs without users that follow one another from the source's side.
+fn longest_unused(tree: &Tree) -> usize {
+    let mut run = vec![0; tree.arcs() + 1];
+    for arc in 1..=tree.arcs() {
+        if tree.users[arc].is_empty() {
+            run[arc] = run[tree.parent[arc]] + 1;
+        }
+    }
+    run.into_iter().max().unwrap()
+}
+
+/// Notes what is rare about an accepted tree.
+pub fn note_tree(tally: &mut Tally, tree: &Tree) {
+    let arcs = tree.arcs();
+    let unused = |arc: usize| tree.users[arc].is_empty();
+    let spare = (1..=arcs).any(unused);
+    let branch = (1..=arcs).any(|arc| unused(arc) && tree.parent[arc] == 0);
+    let mut note = |name: &str, holds: bool| {
+        if holds {
+            tally.met.insert(name.to_string());
+        }
+    };
+    note(NO_SPARE, !spare);
+    note(SPARE, spare);
+    note(ONE, spare && tree.members.len() == 1);
+    note(BRANCH, branch);
+    note(LAST, unused(arcs));
+    note(RUN, longest_unused(tree) >= LONG);
+}
+
+/// What was to be met and was not.
+pub fn unmet(tally: &Tally) -> Vec<String> {
+    let mut unmet = Vec::new();
+    for (entry, on_tree, own) in REFUSALS {
+        let tree: &[u32] = if on_tree { &TREE } else { &[] };
+        for number in [&[0], tree, own].concat() {
+            let cases = tally.cases.get(entry);
+            if !cases.is_some_and(|cases| cases.contains_key(&number)) {
+                unmet.push(format!("{entry} with refusal {number}"));
+            }
+        }
+    }
+    let meetings = AT_ONE_ARC.map(|(a, b)| meeting(a, b, true)).into_iter();
+    let apart = APART.map(|(a, b)| meeting(a, b, false));
+    let trees = [NO_SPARE, SPARE, ONE, BRANCH, LAST, RUN].map(String::from);
+    let rare = meetings.chain(apart).chain(trees);
+    unmet.extend(rare.filter(|case| !tally.met.contains(case)));
+    unmet
+}
