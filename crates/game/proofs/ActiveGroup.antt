@@ -48,7 +48,7 @@ module _ (n : Network) (rooted : Rooted n) (end : MembersEnd n) (shares : List �
       )) in
       ap (pick (n .member v)) (one-part (share shares (number n v)) (own .1)) ∙ pick-zero (n .member v)
 
-  module _ (g : ℕ → Bool) (marks : (v : ℕ) → In (n .arcs) v → n .member v ≡ true → g (number n v) ≡ act v) where
+  module _ (g : ℕ → Bool) (agrees : (v : ℕ) → In (n .arcs) v → n .member v ≡ true → g (number n v) ≡ act v) where
     -- the active members overpay exactly that
     pub active-overpays : overpayment n shares g ≡ pos (children n f 0)
     active-overpays =
@@ -61,7 +61,7 @@ module _ (n : Network) (rooted : Rooted n) (end : MembersEnd n) (shares : List �
               {g = λ v. pick (act v) (over-at n shares v)}
               (λ v i. over-same v i),
           sum-zero (n .arcs) {f = λ v. pick (g (number n v)) (under-at n shares v)} (λ v i. none-under v i),
-          cost-same n (byNumber n g) act marks,
+          cost-same n (byNumber n g) act agrees,
           active-exact n rooted (over-at n shares) f act of-members excess active,
         ))
       where
@@ -69,7 +69,7 @@ module _ (n : Network) (rooted : Rooted n) (end : MembersEnd n) (shares : List �
             → pick (g (number n v)) (over-at n shares v) ≡ pick (act v) (over-at n shares v)
         over-same v i =
             ⊎-elim
-            (λ (m : n .member v ≡ true). ap (λ (b : Bool). pick b (over-at n shares v)) (marks v i m))
+            (λ (m : n .member v ≡ true). ap (λ (b : Bool). pick b (over-at n shares v)) (agrees v i m))
             (λ (m : n .member v ≡ false).
             ap (pick (g (number n v))) (of-members v i m) ∙ pick-zero (g (number n v))
             ∙ sym (ap (pick (act v)) (of-members v i m) ∙ pick-zero (act v)))
@@ -81,7 +81,7 @@ module _ (n : Network) (rooted : Rooted n) (end : MembersEnd n) (shares : List �
             (λ (m : n .member v ≡ true).
             ⊎-elim
             (λ (c : g (number n v) ≡ true). pick-yes (under-at n shares v) c
-            ∙ active-positive v i m (sym (marks v i m) ∙ c))
+            ∙ active-positive v i m (sym (agrees v i m) ∙ c))
             (λ (c : g (number n v) ≡ false). pick-no (under-at n shares v) c)
             (both (g (number n v))))
             (λ (m : n .member v ≡ false). ap (pick (g (number n v))) (pick-no (minus (share shares (number n v))) m)
@@ -97,7 +97,7 @@ module _ (n : Network) (rooted : Rooted n) (end : MembersEnd n) (shares : List �
         subst (λ (u : ℕ). isIn (named n shares) u ≡ true) (v .numbered)
         (active-part n rooted (over-at n shares) f act of-members excess active end
         (byNumber n (isIn (named n shares))) as-much (v .vertex) (v .within) (v .is-member)
-        (sym (marks (v .vertex) (v .within) (v .is-member)) ∙ ap g (v .numbered) ∙ c)))
+        (sym (agrees (v .vertex) (v .within) (v .is-member)) ∙ ap g (v .numbered) ∙ c)))
         (λ c. named-part n shares g (rw active-overpays (over-bound (isIn (named n shares)))) j h c)
       where
         as-much : groupCost n (byNumber n (isIn (named n shares))) + children n f 0

@@ -88,7 +88,7 @@ module _ (n : Network) (caps : List ℕ) (k : ℕ) (l : List ℕ) where
               ];
         }
 
-    -- what user q takes, with its number below the mark and not
+    -- what user q takes, with its number below the bound and not
     served-parts : users n k q ≡ true
         → (rise n caps k l level (suc q) q ≡ (getD caps q 0 - (getD caps q 0 - (level + 1))) - getD l q 0)
         × (rise n caps k l level q q ≡ (getD caps q 0 - (getD caps q 0 - level)) - getD l q 0)

@@ -86,6 +86,13 @@ array-read-used-here c =
     let turn = c .before .before .before in
     omega (arith, place turn, turn .before .loop .inv .0 .few)
 
+-- the bit that is read is that of the member's number
+chosen-bit : (c : tie.After-bit-of Inv-loop μ-loop)
+    → let turn = c .before .before .before in
+    c .bit-of .result ≡ bit (words (start turn)) (turn .before .loop .j - c .before .one-if-marked .result)
+unfolding bit
+chosen-bit c = c .bit-of .ensures
+
 -- whether the turn's arc is used
 here-used : (c : tie.After-used-here Inv-loop μ-loop)
     → let turn = c .before .before .before .before in
@@ -93,14 +100,13 @@ here-used : (c : tie.After-used-here Inv-loop μ-loop)
     c .used-here .result
     ≡ inUse (now (args .parents)) (now (args .costs)) (now (args .marks)) (words (start turn))
     (turn .before .loop .k - 1)
-unfolding bit
 here-used c =
     let turn = c .before .before .before .before in
     let at = turn .before .loop in
     let marks = now (start turn .args .marks) in
     c .used-here .ensures
     ∙ ap (λ (b : Bool). cond (eqb (getD marks (at .k - 1 - 1) 0) 1) b (getD (at .used) (at .k - 1) false))
-    (c .before .bit-of .ensures)
+    (chosen-bit (c .before))
     ∙ costing-used _ _ _ (words (start turn)) (at .inv .0) (at .inv .1) (at .inv .2) (omega arith)
     (omega (arith, place turn)) (at .inv .5) (c .before .before .one-if-marked .ensures)
 
