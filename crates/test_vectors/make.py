@@ -168,7 +168,7 @@ PARTS = [
     random_jobs,
 ]
 
-MOST_INPUT = 1 << 22
+MOST_INPUT = 6 << 20
 
 
 def write(path, lines):

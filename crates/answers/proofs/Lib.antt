@@ -7,6 +7,6 @@ pub mod CoreLaws
 pub mod LevelLaws
 pub mod ShortArc
 pub mod Table
-mod InRange
+pub mod InRange
 pub mod ByArcLaws
 pub mod Unused

@@ -1,5 +1,5 @@
 -- Nobody pays for an arc that nobody uses.
-use Prim.Native.Nat.{ℕ, suc}
+use Prim.Native.Nat.{ℕ}
 use mathlib.Core.Path.{_≡_, sym, ap, ap₂, _∙_}
 use mathlib.Core.Bool.{true, false}
 use mathlib.Core.Logic.{⊎-elim}
@@ -12,7 +12,7 @@ use Rattle.basics.specs.Sum.{list, size}
 use Rattle.basics.proofs.Bools.{both, clash, not-so, and-both, and-first, and-second, pick-yes, pick-no, pick-zero}
 use Rattle.basics.proofs.Bools.{pick-same}
 use Rattle.basics.proofs.Sums.{In, sum-zero}
-use Rattle.basics.proofs.Lists.{list-is, list-at, list-length}
+use Rattle.basics.proofs.Lists.{list-cong}
 use Rattle.game.specs.Network.{Network, atOrBelow, used, everyone, groupCost, sumBelow, need, wholeCost, memberCount}
 use Rattle.game.specs.Network.{members}
 use Rattle.game.specs.Tree.{Tree, treeOf, ofArc, networkOf, counted, countedCosts, network}
@@ -92,10 +92,7 @@ module _ (ps cs ds ms : List ℕ)
     network-same : network (treeOf ps cs ms) ≡ network (treeOf ps ds ms)
     unfolding countedCosts
     network-same =
-        ap (λ (l : List ℕ). networkOf ps l ms)
-        (list-is (counted (networkOf ps ds ms)) 0 (length ps) (countedCosts (treeOf ps cs ms))
-        (list-length (counted (networkOf ps cs ms)) (length ps))
-        (λ i h. list-at (counted (networkOf ps cs ms)) 0 (length ps) i h ∙ counted-same (suc i) (omega arith)))
+        ap (λ (l : List ℕ). networkOf ps l ms) (list-cong (length ps) counted-same)
 
 module _ (s t : Tree) (differ : DifferUnused s t) where
   -- the first tree with the lists of the second

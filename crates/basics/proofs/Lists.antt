@@ -3,10 +3,11 @@
 --   entries-length, entries-at, entries-are   its length; its entry i; a list with these entries is that list
 --   entries-front, entries-part               it as the front of a list, and as the part that code takes
 --   list-length, list-at, list-is             the same of `list`, whose entry i is f (i + 1)
+--   list-cong                                 two such lists with the same entries
 --   front-part                                the part that code takes of a list that starts with another
 --   zeros-length                              the front of an array of zeros, lent as a list
 use Prim.Native.Nat.{ℕ, zero, suc, _-_, _<_, _≤_}
-use mathlib.Core.Path.{_≡_, refl, sym, ap, _∙_}
+use mathlib.Core.Path.{_≡_, refl, sym, ap, ap₂, _∙_}
 use mathlib.Core.List.{List, [], _∷_, _++_}
 use native.Mathlib.Decide.{decLt}
 use native.Mathlib.Nat.{sub-zero}
@@ -14,6 +15,7 @@ use native.Mathlib.Omega.{arith}
 use lib.ListN.{length, getD, take, replicate, length-append, length-take, length-replicate, List·getD-append}
 use lib.Seq.{getD-at, take-at, ext-getD}
 use Rattle.basics.specs.Sum.{list, entries}
+use Rattle.basics.proofs.Sums.{In, in-last, in-more}
 
 -- the part [0..n] that code takes of a list whose first n entries are another's
 pub front-part : {A : Type 0} (front rest : List A) (n : ℕ) → length front ≡ n → take (n - 0) (front ++ rest) ≡ front
@@ -67,6 +69,11 @@ module _ {A : Type 0} (f : ℕ → A) where
 
     pub list-is : (m : ℕ) (l : List A) → length l ≡ m → ((i : ℕ) → i < m → getD l i d ≡ f (suc i)) → l ≡ list m f
     list-is m l e h = rw (from-one m) (entries-are (λ i. f (suc i)) d m l e h)
+
+pub list-cong : {A : Type 0} (m : ℕ) {f g : ℕ → A} → ((k : ℕ) → In m k → f k ≡ g k) → list m f ≡ list m g
+list-cong zero h = refl
+list-cong {A} (suc m) h =
+    ap₂ (λ (l : List A) (x : A). l ++ (x ∷ [])) (list-cong m (λ k i. h k (in-more i))) (h (suc m) (in-last m))
 
 -- the front of an array of zeros, lent as a list
 pub zeros-length : (size m : ℕ) → m ≤ size → length {A = ℕ} (take (m - 0) (replicate size 0)) ≡ m

@@ -1,16 +1,13 @@
--- The check entry by entry of a list with one entry a member: one turn, its end, and what it means that it is accepted.
-use Prim.Native.Nat.{ℕ, zero, suc, _+_, _<_, _≤_}
+-- The check entry by entry of a list with one entry a member: one turn, and its end.
+use Prim.Native.Nat.{ℕ, _+_, _<_, _≤_}
 use mathlib.Core.Path.{_≡_, _∙_}
-use mathlib.Core.Bool.{Bool, false, not}
-use mathlib.Core.List.{List, [], _∷_}
+use mathlib.Core.Bool.{Bool}
+use mathlib.Core.List.{List}
 use native.Mathlib.Numerals.{add-one}
-use borrow.Author.Tests.{eqb-true, not-false}
-use lib.Dec.{eqb}
 use lib.ListN.{length, getD, drop, drop-of-length-le}
 use lib.Seq.{drop-cons}
 use Rattle.answer_forms.specs.Answer.{Check, accepted, fault, _then_}
-use Rattle.answers.specs.Checks.{rangeCheck, memberListCheck}
-use Rattle.answer_forms.proofs.Composed.{first-accepted, second-accepted, no-fault}
+use Rattle.answers.specs.Checks.{rangeCheck}
 use Rattle.answer_forms.specs.Checked.{checkOf}
 use Rattle.answer_forms.specs.declared.Refusal.{Refusal}
 use Rattle.answer_forms.specs.declared.Checked.{Checked}
@@ -40,31 +37,3 @@ module _ {A : Type 0} (outside : A → Bool) (d : A) where
 
     pub range-stop : {x : Refusal} → r ≡ Refused x → checkOf r ≡ found
     range-stop e = rw (turn, e)
-
-  range-inside : (j : ℕ) (l : List A) → outside d ≡ false → rangeCheck outside j l ≡ accepted → (i : ℕ)
-      → outside (getD l i d) ≡ false
-  unfolding rangeCheck
-  range-inside j [] past e i = past
-  range-inside j (x ∷ l) past e zero =
-      no-fault (outside x) 7 j (first-accepted (fault (outside x) 7 j) (rangeCheck outside (j + 1) l) e)
-  range-inside j (x ∷ l) past e (suc i) =
-      range-inside (j + 1) l past (second-accepted (fault (outside x) 7 j) (rangeCheck outside (j + 1) l) e) i
-
-  -- a list on which no check finds fault: one entry a member, each within its range
-  pub record Inside (members : ℕ) (l : List A) : Type 0 where
-    pub same : length l ≡ members
-    pub inside : (i : ℕ) → outside (getD l i d) ≡ false
-
-  pub list-accepted : (members : ℕ) (l : List A) → outside d ≡ false → memberListCheck outside members l ≡ accepted
-      → Inside members l
-  list-accepted members l past e =
-      record {
-        same =
-            eqb-true (length l) members
-            (not-false (eqb (length l) members)
-            (no-fault unlike 6 0 (first-accepted (fault unlike 6 0) (rangeCheck outside 0 l) e)));
-        inside = range-inside 0 l past (second-accepted (fault unlike 6 0) (rangeCheck outside 0 l) e);
-      }
-    where
-      unlike : Bool
-      unlike = not (eqb (length l) members)

@@ -8,7 +8,7 @@ use Rattle.answer_forms.specs.Answer.{accepted}
 use Rattle.limits.specs.Limits.{mostShare}
 use Rattle.tree.specs.Passes.{Capped}
 use Rattle.answers.specs.Level.{outsideCap, capsCheck}
-use Rattle.checks.proofs.Range.{list-accepted}
+use Rattle.answers.proofs.InRange.{list-accepted}
 
 pub caps-accepted : (members : ℕ) (caps : List ℕ) → capsCheck members caps ≡ accepted → Capped members caps
 caps-accepted members caps e =

@@ -15,7 +15,7 @@ use Rattle.answer_forms.specs.Answer.{accepted}
 use Rattle.answers.specs.Checks.{proposalCheck, outsideShare}
 use Rattle.limits.specs.Limits.{mostShare, mostArcs}
 use Rattle.limits.specs.Inner.{mostTotal}
-use Rattle.checks.proofs.Range.{list-accepted}
+use Rattle.answers.proofs.InRange.{list-accepted}
 
 pub share-most : (members : ℕ) (l : List ℤ) → proposalCheck members l ≡ accepted → (j : ℕ)
     → natAbs (share l j) ≤ mostShare

@@ -15,7 +15,7 @@ use Rattle.basics.proofs.Sums.{count-le}
 use Rattle.game.proofs.Overpayment.{over-at, members-sum}
 use Rattle.answer_forms.specs.Answer.{accepted}
 use Rattle.answers.specs.Checks.{proposalCheck, outsideShare}
-use Rattle.checks.proofs.Range.{list-accepted}
+use Rattle.answers.proofs.InRange.{list-accepted}
 use Rattle.proposal.proofs.Sums.{plus-size, sum-most}
 use Rattle.tree.specs.Passes.{Sound, Costed, Marked}
 

@@ -8,11 +8,11 @@ use libc::STDIN_FILENO;
 ghost use mathlib.Core.Path.{_≡_};
 ghost use lib.ListN.{length};
 
-// Room for the input, 4 MiB of zeros.
-fn room() -> [u8; 4194304]
-    ensures { λ r. ⌜ 4194304 ≡ length r ⌝ }
+// Room for the input, 6 MiB of zeros.
+fn room() -> [u8; 6291456]
+    ensures { λ r. ⌜ 6291456 ≡ length r ⌝ }
 {
-    [0; 4194304]
+    [0; 6291456]
 }
 
 fn run_all(input: &[u8]) {

@@ -18,7 +18,7 @@ use Rattle.answers.specs.Checks.{proposalCheck, outsideShare}
 use Rattle.answers.specs.Audit.{Verdict, wrongTotal, wordsBeside}
 use Rattle.answer_forms.specs.Checked.{checkOf}
 use Rattle.answer_forms.proofs.Opened.{opened, turned-away}
-use Rattle.checks.proofs.Range.{list-accepted}
+use Rattle.answers.proofs.InRange.{list-accepted}
 use Rattle.tree.proofs.Bounds.{costs-bound}
 use Rattle.engine.proofs.TreeAccepted.{marks-count, members-few}
 use Rattle.engine.proofs.AuditAnswer.{right-total, off-total}
