@@ -131,6 +131,12 @@ typedef struct ZilqodurAudit {
     uint64_t group[16]; /* objection: of the groups that overpay the amount, the one with fewest members */
 } ZilqodurAudit;
 
+typedef struct ZilqodurCapSums {
+    uint32_t refusal;
+    size_t place;
+    uint64_t total; /* what all caps add up to */
+} ZilqodurCapSums;
+
 typedef struct ZilqodurLevel {
     uint32_t refusal;
     size_t place;
@@ -188,6 +194,13 @@ ZilqodurGroup zilqodur_group_cost(const uint16_t *parents, size_t parents_count,
  * member, each from -2,000,000,000,000 to 2,000,000,000,000. Refusals: the tree's, 6, 7. */
 ZilqodurAudit zilqodur_audit(const uint16_t *parents, size_t parents_count, const uint32_t *costs, size_t costs_count,
                              const uint16_t *marks, size_t marks_count, const int64_t *proposal, size_t proposal_count);
+
+/* Writes for each arc what the caps of its users add up to: at a member's arc its cap, elsewhere the sums of its child arcs added up, so 0
+ * where it has no user. `caps` has one cap a member, each from 0 to 2,000,000,000,000; `out` has one entry an arc, entry 0 for arc 1.
+ * Refusals: the tree's, 6, 7, 8. */
+ZilqodurCapSums zilqodur_list_cap_sums(const uint16_t *parents, size_t parents_count, const uint32_t *costs, size_t costs_count,
+                                       const uint16_t *marks, size_t marks_count, const uint64_t *caps, size_t caps_count,
+                                       uint64_t *out, size_t out_count);
 
 /* Writes the level split: arcs from m down to 1, each unit of an arc's cost to the user with the smallest share among users below their
  * cap, ties to the lowest member number. `caps` has one cap a member, each from 0 to 2,000,000,000,000; `out` has one entry a member.

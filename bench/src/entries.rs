@@ -8,7 +8,7 @@ use crate::{best, ffi, same};
 use std::hint::black_box;
 
 #[rustfmt::skip]
-pub const ENTRIES: [&str; 6] = ["needs", "audit", "by-arc", "level", "job reader", "dead ends"];
+pub const ENTRIES: [&str; 7] = ["needs", "audit", "by-arc", "level", "job reader", "dead ends", "cap sums"];
 
 pub const LEVEL: usize = 3;
 
@@ -81,6 +81,10 @@ pub fn compare(n: &Network) {
         written(p.len(), |out| ffi::mark_dead_ends(p, c, out)),
         written(p.len(), |out| same::mark_dead_ends(p, c, out)),
     );
+    assert_eq!(
+        written(p.len(), |out| ffi::list_cap_sums(p, c, m, caps, out)),
+        written(p.len(), |out| same::list_cap_sums(p, c, m, caps, out)),
+    );
     let (mut a, mut b) = (LISTS, LISTS);
     let read = a.fill(ffi::read_job, &n.job);
     assert_eq!(read, b.fill(same::read_job, &n.job));
@@ -149,8 +153,18 @@ fn dead_ends(n: &Network) -> Calls<'_> {
     ]
 }
 
+fn cap_sums(n: &Network) -> Calls<'_> {
+    let (p, c, m, caps) = (&n.parents[..], &n.costs[..], &n.marks[..], &n.caps[..]);
+    let (mut a, mut b) = (vec![0; p.len()], vec![0; p.len()]);
+    vec![
+        Box::new(move || used(ffi::list_cap_sums(black_box(p), c, m, caps, &mut a))),
+        Box::new(move || used(same::list_cap_sums(black_box(p), c, m, caps, &mut b))),
+    ]
+}
+
 /// The calls of each entry, in the order of their names.
-const CALLS: [fn(&Network) -> Calls<'_>; 6] = [needs, audit, by_arc, level, job, dead_ends];
+const CALLS: [fn(&Network) -> Calls<'_>; 7] =
+    [needs, audit, by_arc, level, job, dead_ends, cap_sums];
 
 /// The times of one entry on each of the networks.
 pub fn measure(entry: usize, networks: &[Network]) -> Vec<Times> {

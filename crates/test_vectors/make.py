@@ -36,6 +36,7 @@ from levels import (
 )
 from divisions import division_refusals, large_divisions, leftovers, random_divisions
 from marks import many_marks, random_marks, small_marks, spare_networks
+from sums import large_sums, random_sums, small_sums, sum_limits, sum_refusals
 from pruned import check_pruned
 from jobs import (
     T_ARCS,
@@ -95,12 +96,14 @@ STATED = [
     (("level", T, [3, 9, 4], 3), "split 3: 3,9,4"),
     (("level", T, [3, 8, 100], 3), "refused 9 at 1 short 1: 9,9,9"),
     (("level", U, [3, 100], 2), "split 2: 3,4"),
+    (("capsums", T, [3, 9, 4], 4), "total 16: 12,3,9,4"),
     (("byarc", T, 3), "members 3: 4,8,4"),
     (("byarc", U, 2), "members 2: 4,3"),
     (("count", T_SPARE), "members 2"),
     (("needs", T_SPARE, 4), "whole 11 members 2: 7,1,0,4"),
     (("group", T_SPARE, words_of([0])), "size 1 cost 7"),
     (("level", T_SPARE, [100, 100], 2), "split 2: 7,4"),
+    (("capsums", T_SPARE, [3, 4], 4), "total 7: 3,3,0,4"),
     (("byarc", T_SPARE, 2), "members 2: 7,4"),
     (("deadends", T.parents, T.costs, 4), "members 3: 0,1,1,1"),
     (("check", T._replace(marks=[0, 1, 2, 1])), "refused 16 at 3"),
@@ -154,6 +157,11 @@ PARTS = [
     spare_networks,
     many_marks,
     random_marks,
+    small_sums,
+    large_sums,
+    sum_limits,
+    sum_refusals,
+    random_sums,
     job_notes,
     full_jobs,
     many_arcs,

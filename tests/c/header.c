@@ -61,6 +61,10 @@ static int is_audit(ZilqodurAudit found, uint32_t refusal, size_t place, uint32_
            memcmp(found.group, group, sizeof group) == 0;
 }
 
+static int is_cap_sums(ZilqodurCapSums found, uint32_t refusal, size_t place, uint64_t total) {
+    return IS(found.refusal, refusal) && IS(found.place, place) && IS(found.total, total);
+}
+
 static int is_level(ZilqodurLevel found, uint32_t refusal, size_t place, uint64_t shortfall, size_t members) {
     return IS(found.refusal, refusal) && IS(found.place, place) && IS(found.shortfall, shortfall) && IS(found.members, members);
 }
@@ -79,7 +83,8 @@ static int is_report(ZilqodurReport found, uint32_t refusal, size_t place, size_
 /* No struct is larger than the archive's. */
 static void sizes(void) {
     EXPECT(sizeof(ZilqodurCheck) == 16 && sizeof(ZilqodurMembers) == 24 && sizeof(ZilqodurNeeds) == 32 && sizeof(ZilqodurGroup) == 32);
-    EXPECT(sizeof(ZilqodurAudit) == 176 && sizeof(ZilqodurLevel) == 32 && sizeof(ZilqodurJob) == 40 && sizeof(ZilqodurReport) == 24);
+    EXPECT(sizeof(ZilqodurAudit) == 176 && sizeof(ZilqodurCapSums) == 24 && sizeof(ZilqodurLevel) == 32 && sizeof(ZilqodurJob) == 40);
+    EXPECT(sizeof(ZilqodurReport) == 24);
 }
 
 static int are(const uint64_t *list, uint64_t a, uint64_t b, uint64_t c) {
@@ -174,6 +179,20 @@ static void audits(void) {
     EXPECT(is_audit(zilqodur_audit(T(marks), unfair, MEMBERS), 0, 0, ZILQODUR_OBJECTION, 0, 5, 1, 0, 4));
 }
 
+static void cap_sums(void) {
+    static const uint64_t caps[MEMBERS] = {3, 9, 4}, high[MEMBERS] = {3, 2000000000001, 2000000000001};
+    uint64_t out[ARCS] = {7, 7, 7, 7};
+    EXPECT(is_cap_sums(zilqodur_list_cap_sums(parents, ARCS, wrong_costs, ARCS, marks, ARCS, caps, MEMBERS, out, ARCS), ZILQODUR_COST, 3,
+                       0));
+    EXPECT(is_cap_sums(zilqodur_list_cap_sums(T(no_marks), high, 2, out, MEMBERS), ZILQODUR_NO_MARK, 0, 0));
+    EXPECT(is_cap_sums(zilqodur_list_cap_sums(T(marks), high, 2, out, MEMBERS), ZILQODUR_LIST_LENGTH, 0, 0));
+    EXPECT(is_cap_sums(zilqodur_list_cap_sums(T(marks), high, MEMBERS, out, MEMBERS), ZILQODUR_LIST_RANGE, 1, 0));
+    EXPECT(is_cap_sums(zilqodur_list_cap_sums(T(marks), caps, MEMBERS, out, MEMBERS), ZILQODUR_OUTPUT_LENGTH, 0, 0));
+    EXPECT(are(out, 7, 7, 7) && out[3] == 7);
+    EXPECT(is_cap_sums(zilqodur_list_cap_sums(T(marks), caps, MEMBERS, out, ARCS), ZILQODUR_NO_REFUSAL, 0, 16));
+    EXPECT(are(out, 12, 3, 9) && out[3] == 4);
+}
+
 static void level_splits(void) {
     static const uint64_t caps[MEMBERS] = {3, 9, 4}, low[MEMBERS] = {3, 6, 100};
     uint64_t out[MEMBERS] = {7, 7, 7};
@@ -201,7 +220,7 @@ static void spare(void) {
     static const uint64_t caps[2] = {100, 100}, low[2] = {6, 100};
     const uint64_t group[16] = {1}, beyond[16] = {4};
     uint16_t vertices[2];
-    uint64_t out[ARCS];
+    uint64_t out[ARCS], sums[ARCS] = {7, 7, 7, 7};
     EXPECT(is_members(zilqodur_count_members(T(some)), ZILQODUR_NO_REFUSAL, 0, 2));
     EXPECT(is_members(zilqodur_list_members(T(some), vertices, 2), ZILQODUR_NO_REFUSAL, 0, 2));
     EXPECT(vertices[0] == 2 && vertices[1] == 4);
@@ -211,6 +230,8 @@ static void spare(void) {
     EXPECT(is_group(zilqodur_group_cost(T(some), beyond), ZILQODUR_GROUP_BIT, 2, 0, 0));
     EXPECT(is_audit(zilqodur_audit(T(some), fair, 2), 0, 0, ZILQODUR_PASS, 0, 0, 0, 0, 0));
     EXPECT(is_audit(zilqodur_audit(T(some), whole, 2), 0, 0, ZILQODUR_WRONG_TOTAL, 5, 0, 0, 0, 0));
+    EXPECT(is_cap_sums(zilqodur_list_cap_sums(T(some), low, 2, sums, ARCS), ZILQODUR_NO_REFUSAL, 0, 106));
+    EXPECT(are(sums, 6, 6, 0) && sums[3] == 100);
     EXPECT(is_level(zilqodur_split_level(T(some), low, 2, out, 2), ZILQODUR_CAPS_SHORT, 1, 1, 0));
     EXPECT(are(out, 7, 1, 0));
     EXPECT(is_level(zilqodur_split_level(T(some), caps, 2, out, 2), ZILQODUR_NO_REFUSAL, 0, 0, 2));
@@ -303,18 +324,19 @@ static void reports(void) {
     EXPECT(memcmp(out, text, sizeof text - 1) == 0 && out[sizeof text - 1] == '#' && out[sizeof out - 1] == '#');
 }
 
-/* A star of arcs of the greatest cost: sums beyond 32 bits, and the last word of a group. */
+/* A star of arcs of the greatest cost, with the greatest caps: sums beyond 32 bits, and the last word of a group. */
 static void largest(void) {
     static uint16_t star[ZILQODUR_MOST_ARCS + 1], all[ZILQODUR_MOST_ARCS + 1];
     static uint32_t dear[ZILQODUR_MOST_ARCS + 1];
     static int64_t proposal[ZILQODUR_MOST_ARCS];
-    static uint64_t out[ZILQODUR_MOST_ARCS];
+    static uint64_t caps[ZILQODUR_MOST_ARCS], out[ZILQODUR_MOST_ARCS];
     const size_t m = ZILQODUR_MOST_ARCS;
     uint64_t group[16] = {0};
     size_t i;
     for (i = 0; i < m; i++) {
         dear[i] = 1000000000;
         proposal[i] = 1000000000;
+        caps[i] = 2000000000000;
         group[i / 64] |= UINT64_C(1) << (i % 64);
     }
     proposal[0] -= 900000000000;
@@ -327,6 +349,8 @@ static void largest(void) {
     EXPECT(is_group(zilqodur_group_cost(star, m, dear, m, all, m, group), ZILQODUR_NO_REFUSAL, 0, m, 1023000000000));
     EXPECT(is_audit(zilqodur_audit(star, m, dear, m, all, m, proposal, m), 0, 0, ZILQODUR_OBJECTION, 0, 900000000000, 1, 15,
                     UINT64_C(1) << 62));
+    EXPECT(is_cap_sums(zilqodur_list_cap_sums(star, m, dear, m, all, m, caps, m, out, m), ZILQODUR_NO_REFUSAL, 0, 2046000000000000));
+    EXPECT(out[0] == 2000000000000 && out[m - 1] == 2000000000000);
 }
 
 /* Each number has a sentence of its own, and every other number the same one. */
@@ -352,6 +376,7 @@ int main(void) {
     needs();
     groups();
     audits();
+    cap_sums();
     level_splits();
     by_arc_splits();
     spare();

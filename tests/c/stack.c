@@ -66,6 +66,10 @@ static uint32_t audit(void) {
     return zilqodur_audit(parents, ARCS, costs, ARCS, marks, ARCS, proposal, members).refusal;
 }
 
+static uint32_t list_cap_sums(void) {
+    return zilqodur_list_cap_sums(parents, ARCS, costs, ARCS, marks, ARCS, caps, members, out, ARCS).refusal;
+}
+
 static uint32_t split_level(void) {
     return zilqodur_split_level(parents, ARCS, costs, ARCS, marks, ARCS, caps, members, out, members).refusal;
 }
@@ -97,6 +101,7 @@ static const struct {
     {"zilqodur_list_needs", list_needs, OTHER},
     {"zilqodur_group_cost", group_cost, OTHER},
     {"zilqodur_audit", audit, OTHER},
+    {"zilqodur_list_cap_sums", list_cap_sums, OTHER},
     {"zilqodur_split_level", split_level, OTHER},
     {"zilqodur_split_by_arc", split_by_arc, OTHER},
     {"zilqodur_read_job", read_job, OTHER},

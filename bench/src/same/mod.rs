@@ -4,6 +4,7 @@
 
 mod audit;
 mod by_arc;
+mod cap_sums;
 mod check;
 mod dead_ends;
 mod job;
@@ -12,6 +13,7 @@ mod needs;
 
 pub use audit::audit;
 pub use by_arc::split_by_arc;
+pub use cap_sums::list_cap_sums;
 pub use check::check_tree;
 pub use dead_ends::mark_dead_ends;
 pub use job::read_job;
@@ -83,13 +85,14 @@ fn write_needs(parents: &[u16], costs: &[u32], out: &mut [u64]) -> u64 {
     add_up(parents, out)
 }
 
-/// Writes for each arc what the caps of its users add up to.
-fn write_cap_sums(parents: &[u16], vertices: &[u16], caps: &[u64], out: &mut [u64]) {
+/// Writes for each arc what the caps of its users add up to; answers the sum of
+/// all caps.
+fn write_cap_sums(parents: &[u16], vertices: &[u16], caps: &[u64], out: &mut [u64]) -> u64 {
     out.fill(0);
     for (&vertex, &cap) in vertices.iter().zip(caps) {
         out[usize::from(vertex) - 1] = cap;
     }
-    add_up(parents, out);
+    add_up(parents, out)
 }
 
 /// Writes for each arc the number of its users: the cap sums where every cap

@@ -5,6 +5,8 @@ pub mod Laws
 pub mod AuditLaws
 pub mod CoreLaws
 pub mod LevelLaws
+pub mod RunningSums
+pub mod CapSumsLaws
 pub mod ShortArc
 pub mod Table
 pub mod InRange

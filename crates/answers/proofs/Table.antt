@@ -15,6 +15,7 @@ use Rattle.answers.specs.GroupCost.{groupCostAnswer}
 use Rattle.answers.specs.Audit.{verdict, auditAnswer, auditWords}
 use Rattle.game.specs.Level.{firstLeast, units, arcsDown}
 use Rattle.answers.specs.Level.{shortArc, levelAnswer, levelList}
+use Rattle.answers.specs.CapSums.{runningTo, capSumsAnswer, capSumsList}
 use Rattle.game.specs.ByArc.{giveArc, byArcDown}
 use Rattle.answers.specs.ByArc.{byArcAnswer, byArcList}
 use Rattle.answers.specs.Table.{Table}
@@ -24,6 +25,7 @@ unfolding climb used groupCost sumBelow wholeCost membersTo hasChild deadEnds co
     groups best named arcByArc treeCheck plainCheck deadEndsAnswer deadEndsList bitsCheck rangeCheck
     memberCountAnswer membersAnswer membersList needsAnswer needsList groupCostAnswer verdict auditAnswer auditWords
     firstLeast units arcsDown shortArc levelAnswer levelList giveArc byArcDown byArcAnswer byArcList
+    runningTo capSumsAnswer capSumsList
 table =
     record {
       T-members = refl;
@@ -76,4 +78,10 @@ table =
       mark-2-list = refl;
       mark-of-parent = refl;
       no-marks = refl;
+      T-cap-sums = refl;
+      T-cap-sums-list = refl;
+      T-cap-sums-short = refl;
+      T-cap-sums-short-list = refl;
+      spare-cap-sums = refl;
+      spare-cap-sums-list = refl;
     }

@@ -33,6 +33,7 @@ use Rattle.answers.specs.GroupCost.{groupCostAnswer}
 use Rattle.answers.specs.Audit.{verdict, wordsBeside, auditAnswer, auditWords}
 use Rattle.answers.specs.Level.{LevelAnswer, capsCheck, shortArc, splitOr9, levelOr, listAfter, levelAnswer}
 use Rattle.answers.specs.Level.{levelList}
+use Rattle.answers.specs.CapSums.{runningSum, allCaps, capSumsAnswer, capSumsList}
 use Rattle.answers.specs.ByArc.{byArcAnswer, byArcList}
 use Rattle.answers.specs.Unused.{UnusedStatement, DifferUnused, StubStatement}
 use Rattle.answers.proofs.Accepted.{tree-accepted}
@@ -111,7 +112,7 @@ module _ (s t : Tree) (differ : DifferUnused s t) where
 
 pub stubs-free : StubStatement
 unfolding memberCountAnswer membersAnswer membersList needsAnswer needsList groupCostAnswer auditAnswer auditWords
-    levelAnswer levelList byArcAnswer byArcList
+    levelAnswer levelList capSumsAnswer capSumsList byArcAnswer byArcList
 stubs-free s t s-ok t-ok differ =
     record {
       check = check;
@@ -136,6 +137,9 @@ stubs-free s t s-ok t-ok differ =
           (wordsOf (isIn (named n shares))));
       level = λ caps out. by-both (leveled caps out);
       level-list = λ caps out. by-both (λ c n. listAfter (leveled caps out c n) out (level n caps (n .cost)));
+      cap-sums = λ caps out. by-both (λ c n. answer (summed caps out c n) (allCaps caps));
+      cap-sums-list = λ caps out.
+          by-both (λ c n. written (summed caps out c n) out (list (n .arcs) (runningSum n caps)));
       by-arc = λ out. by-both (λ c n. answer (c then outputCheck (memberCount n) out) (memberCount n));
       by-arc-list = λ out. by-both (λ c n. written (c then outputCheck (memberCount n) out) out (byArc n));
     }
@@ -151,3 +155,6 @@ stubs-free s t s-ok t-ok differ =
     leveled caps out c n =
         levelOr (c then capsCheck (memberCount n) caps then outputCheck (memberCount n) out)
         (splitOr9 n caps (shortArc n caps (n .arcs)))
+
+    summed : List ℕ → List ℕ → Check → Network → Check
+    summed caps out c n = c then capsCheck (memberCount n) caps then outputCheck (n .arcs) out

@@ -4,6 +4,7 @@ pub mod Needs
 pub mod GroupCost
 pub mod Audit
 pub mod Level
+pub mod CapSums
 pub mod ByArc
 pub mod DeadEnds
 pub mod Limits
@@ -11,6 +12,7 @@ pub mod Laws
 pub mod AuditLaws
 pub mod CoreLaws
 pub mod LevelLaws
+pub mod CapSumsLaws
 pub mod ByArcLaws
 pub mod Unused
 pub mod Table

@@ -12,6 +12,7 @@ use Rattle.answers.specs.Needs.{needsAnswer, needsList}
 use Rattle.answers.specs.GroupCost.{groupCostAnswer}
 use Rattle.answers.specs.Audit.{wrongTotal, objection, pass, auditAnswer, auditWords}
 use Rattle.answers.specs.Level.{split, refusal, levelAnswer, levelList}
+use Rattle.answers.specs.CapSums.{capSumsAnswer, capSumsList}
 use Rattle.answers.specs.ByArc.{byArcAnswer, byArcList}
 
 -- the tree T of the specification, §10
@@ -95,3 +96,10 @@ pub record Table : Type 0 where
   pub mark-2-list : membersList (T-marked 0 1 2 1) (lent 2) ≡ lent 2
   pub mark-of-parent : membersAnswer (T-marked 1 1 2 1) (lent 3) ≡ no 17 1
   pub no-marks : membersAnswer (T-marked 0 0 0 0) (lent 4) ≡ no 18 0
+  -- running sums of caps
+  pub T-cap-sums : capSumsAnswer T (3 ∷ 9 ∷ 4 ∷ []) (lent 4) ≡ value 16
+  pub T-cap-sums-list : capSumsList T (3 ∷ 9 ∷ 4 ∷ []) (lent 4) ≡ 12 ∷ 3 ∷ 9 ∷ 4 ∷ []
+  pub T-cap-sums-short : capSumsAnswer T (3 ∷ 9 ∷ 4 ∷ []) (lent 3) ≡ no 8 0
+  pub T-cap-sums-short-list : capSumsList T (3 ∷ 9 ∷ 4 ∷ []) (lent 3) ≡ lent 3
+  pub spare-cap-sums : capSumsAnswer T-spare (3 ∷ 4 ∷ []) (lent 4) ≡ value 7
+  pub spare-cap-sums-list : capSumsList T-spare (3 ∷ 4 ∷ []) (lent 4) ≡ 3 ∷ 3 ∷ 0 ∷ 4 ∷ []

@@ -16,6 +16,7 @@ use Rattle.answers.specs.Needs.{needsAnswer, needsList}
 use Rattle.answers.specs.GroupCost.{groupCostAnswer}
 use Rattle.answers.specs.Audit.{auditAnswer, auditWords}
 use Rattle.answers.specs.Level.{levelAnswer, levelList}
+use Rattle.answers.specs.CapSums.{capSumsAnswer, capSumsList}
 use Rattle.answers.specs.ByArc.{byArcAnswer, byArcList}
 
 -- arc k has need 0, and gives nothing to anyone in either split
@@ -47,6 +48,8 @@ pub record SameAnswers (s t : Tree) : Type 0 where
   pub audit-words : (shares : List ℤ) → auditWords s shares ≡ auditWords t shares
   pub level : (caps out : List ℕ) → levelAnswer s caps out ≡ levelAnswer t caps out
   pub level-list : (caps out : List ℕ) → levelList s caps out ≡ levelList t caps out
+  pub cap-sums : (caps out : List ℕ) → capSumsAnswer s caps out ≡ capSumsAnswer t caps out
+  pub cap-sums-list : (caps out : List ℕ) → capSumsList s caps out ≡ capSumsList t caps out
   pub by-arc : (out : List ℕ) → byArcAnswer s out ≡ byArcAnswer t out
   pub by-arc-list : (out : List ℕ) → byArcList s out ≡ byArcList t out
 

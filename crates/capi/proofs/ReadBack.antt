@@ -16,11 +16,12 @@ use Rattle.answers.specs.Needs.{needsAnswer}
 use Rattle.answers.specs.GroupCost.{groupCostAnswer}
 use Rattle.answers.specs.Audit.{Verdict, wrongTotal, objection, pass, auditAnswer}
 use Rattle.answers.specs.Level.{LevelAnswer, outsideCap, capsCheck, shortArc, levelOr, splitOr9, levelAnswer}
+use Rattle.answers.specs.CapSums.{capSumsAnswer}
 use Rattle.answers.specs.ByArc.{byArcAnswer}
 use Rattle.job.specs.Reader.{Lent, readCheck, jobAnswer}
 use Rattle.capi.specs.Structs.{encodeMembers, decodeMembers, encodeNeeds, decodeNeeds, encodeGroup, decodeGroup}
 use Rattle.capi.specs.Structs.{encodeAudit, decodeAudit, VerdictUnlessRefused, encodeLevel, decodeLevel}
-use Rattle.capi.specs.Structs.{encodeJob, decodeJob}
+use Rattle.capi.specs.Structs.{encodeCapSums, decodeCapSums, encodeJob, decodeJob}
 use Rattle.capi.proofs.Kept.{Kept, then-kept, tree-kept, plain-kept, bits-kept, list-kept, output-kept}
 use Rattle.capi.proofs.Kept.{read-kept}
 
@@ -117,14 +118,27 @@ split-back : (n : Network) (caps : List ℕ) (k : ℕ) → decodeLevel (encodeLe
 split-back n caps zero = refl
 split-back n caps (suc k) = refl
 
+-- the tree, caps and an output list of a wanted length
+caps-kept : (t : Tree) (caps out : List ℕ) (wanted : ℕ)
+    → Kept (treeCheck t then capsCheck (memberCount (network t)) caps then outputCheck wanted out)
+caps-kept t caps out wanted =
+    let members = memberCount (network t) in
+    then-kept (treeCheck t) _ (tree-kept t)
+    (then-kept (capsCheck members caps) (outputCheck wanted out) (list-kept outsideCap members caps)
+    (output-kept wanted out))
+
+pub cap-sums-back : (t : Tree) (caps out : List ℕ)
+    → decodeCapSums (encodeCapSums (capSumsAnswer t caps out)) ≡ capSumsAnswer t caps out
+unfolding capSumsAnswer
+cap-sums-back t caps out =
+    answer-back encodeCapSums decodeCapSums (λ x. refl) (λ n place. refl) _ _
+    (caps-kept t caps out (length (t .parents)))
+
 pub level-back : (t : Tree) (caps out : List ℕ)
     → decodeLevel (encodeLevel (levelAnswer t caps out)) ≡ levelAnswer t caps out
 unfolding levelAnswer
 level-back t caps out =
-    level-or-back _ _
-    (then-kept (treeCheck t) _ (tree-kept t)
-    (then-kept (capsCheck (memberCount (network t)) caps) (outputCheck (memberCount (network t)) out)
-    (list-kept outsideCap (memberCount (network t)) caps) (output-kept (memberCount (network t)) out)))
+    level-or-back _ _ (caps-kept t caps out (memberCount (network t)))
     (split-back (network t) caps (shortArc (network t) caps (network t .arcs)))
 
 pub job-back : (bytes : List ℕ) (l : Lent) → decodeJob (encodeJob (jobAnswer bytes l)) ≡ jobAnswer bytes l

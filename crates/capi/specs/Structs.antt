@@ -17,6 +17,7 @@ use Rattle.capi.specs.declared.members.ZilqodurMembers.{ZilqodurMembers}
 use Rattle.capi.specs.declared.needs.ZilqodurNeeds.{ZilqodurNeeds}
 use Rattle.capi.specs.declared.group.ZilqodurGroup.{ZilqodurGroup}
 use Rattle.capi.specs.declared.proposal_audit.ZilqodurAudit.{ZilqodurAudit}
+use Rattle.capi.specs.declared.cap_sums.ZilqodurCapSums.{ZilqodurCapSums}
 use Rattle.capi.specs.declared.level_split.ZilqodurLevel.{ZilqodurLevel}
 use Rattle.capi.specs.declared.job_read.ZilqodurJob.{ZilqodurJob}
 use Rattle.capi.specs.declared.report.ZilqodurReport.{ZilqodurReport}
@@ -93,6 +94,13 @@ decodeAudit s = auditBy s (s .verdict)
 -- the verdict is 0 exactly where the refusal is not
 abbrev pub VerdictUnlessRefused : ZilqodurAudit → Type 0
 VerdictUnlessRefused s = eqb (s .verdict) 0 ≡ not (eqb (s .refusal) 0)
+
+abbrev pub encodeCapSums : Answer ℕ → ZilqodurCapSums
+encodeCapSums (value n) = record { refusal = 0; place = 0; total = n }
+encodeCapSums (refusal number place) = record { refusal = number; place = place; total = 0 }
+
+abbrev pub decodeCapSums : ZilqodurCapSums → Answer ℕ
+decodeCapSums s = valueOr (s .refusal) (s .place) (s .total)
 
 abbrev pub encodeLevel : LevelAnswer → ZilqodurLevel
 encodeLevel (split members) = record { refusal = 0; place = 0; shortfall = 0; members = members }

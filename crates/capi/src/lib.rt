@@ -1,6 +1,7 @@
 // The public entries for C: each calls one entry and answers a struct of numbers. A refusal of 0 means that there is
 // none.
 mod by_arc_split;
+mod cap_sums;
 mod check;
 mod group;
 mod job_read;
@@ -12,6 +13,8 @@ mod proposal_audit;
 mod report;
 
 pub use by_arc_split::zilqodur_split_by_arc;
+pub use cap_sums::ZilqodurCapSums;
+pub use cap_sums::zilqodur_list_cap_sums;
 pub use check::ZilqodurCheck;
 pub use check::zilqodur_check_caps;
 pub use check::zilqodur_check_proposal;

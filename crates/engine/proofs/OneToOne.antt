@@ -9,7 +9,7 @@ use Rattle.answers.specs.Level.{LevelAnswer, split, refusal as notSplit}
 use Rattle.answer_forms.specs.Checked.{checkOf}
 use Rattle.answer_forms.specs.declared.Checked.{Checked}
 use Rattle.answer_forms.specs.declared.Checked.the-variants.{Accepted, Refused as NotAccepted}
-use Rattle.engine.specs.Outcomes.{memberCountOf, needsOf, groupCostOf, auditOf, levelOf}
+use Rattle.engine.specs.Outcomes.{memberCountOf, needsOf, groupCostOf, auditOf, capSumsOf, levelOf}
 use Rattle.engine.specs.declared.members.MemberCount.{MemberCount}
 use Rattle.engine.specs.declared.members.MemberCount.the-variants.{Members, Refused as NoMembers}
 use Rattle.engine.specs.declared.needs.NeedsFound.{NeedsFound}
@@ -19,6 +19,8 @@ use Rattle.engine.specs.declared.group.GroupCost.the-variants.{Cost, Ref
 use Rattle.engine.specs.declared.proposal_audit.AuditFound.{AuditFound}
 use Rattle.engine.specs.declared.proposal_audit.AuditFound.the-variants.{WrongTotal, Objection, Pass}
 use Rattle.engine.specs.declared.proposal_audit.AuditFound.the-variants.{Refused as NoAudit}
+use Rattle.engine.specs.declared.cap_sums.CapSumsFound.{CapSumsFound}
+use Rattle.engine.specs.declared.cap_sums.CapSumsFound.the-variants.{Total, Refused as NoTotal}
 use Rattle.engine.specs.declared.level_split.LevelSplit.{LevelSplit}
 use Rattle.engine.specs.declared.level_split.LevelSplit.the-variants.{Split, Refused as NoSplit}
 
@@ -83,6 +85,17 @@ audit-is (NoAudit r) = refl
 
 pub audit-one-to-one : (a b : AuditFound) → auditOf a ≡ auditOf b → a ≡ b
 audit-one-to-one = read-back auditOf audit-back audit-is
+
+abbrev cap-sums-back : Answer ℕ → CapSumsFound
+cap-sums-back (value n) = Total n
+cap-sums-back (refusal number place) = NoTotal (record { number = number; place = place })
+
+cap-sums-is : (a : CapSumsFound) → cap-sums-back (capSumsOf a) ≡ a
+cap-sums-is (Total n) = refl
+cap-sums-is (NoTotal r) = refl
+
+pub cap-sums-one-to-one : (a b : CapSumsFound) → capSumsOf a ≡ capSumsOf b → a ≡ b
+cap-sums-one-to-one = read-back capSumsOf cap-sums-back cap-sums-is
 
 abbrev level-back : LevelAnswer → LevelSplit
 level-back (split members) = Split members

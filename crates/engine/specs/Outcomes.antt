@@ -14,6 +14,8 @@ use Rattle.engine.specs.declared.group.GroupCost.the-variants.{Cost, Ref
 use Rattle.engine.specs.declared.proposal_audit.AuditFound.{AuditFound}
 use Rattle.engine.specs.declared.proposal_audit.AuditFound.the-variants.{WrongTotal, Objection, Pass}
 use Rattle.engine.specs.declared.proposal_audit.AuditFound.the-variants.{Refused as NoAudit}
+use Rattle.engine.specs.declared.cap_sums.CapSumsFound.{CapSumsFound}
+use Rattle.engine.specs.declared.cap_sums.CapSumsFound.the-variants.{Total, Refused as NoTotal}
 use Rattle.engine.specs.declared.level_split.LevelSplit.{LevelSplit}
 use Rattle.engine.specs.declared.level_split.LevelSplit.the-variants.{Split, Refused as NoSplit}
 
@@ -34,6 +36,10 @@ auditOf (WrongTotal difference) = value (wrongTotal difference)
 auditOf (Objection amount size) = value (objection amount size)
 auditOf Pass = value pass
 auditOf (NoAudit r) = refusal (r .number) (r .place)
+
+abbrev pub capSumsOf : CapSumsFound → Answer ℕ
+capSumsOf (Total n) = value n
+capSumsOf (NoTotal r) = refusal (r .number) (r .place)
 
 abbrev pub levelOf : LevelSplit → LevelAnswer
 levelOf (Split members) = split members

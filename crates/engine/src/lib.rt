@@ -1,5 +1,6 @@
 // The public entries over lists as they are handed in. Each answers its value or a refusal by number and place.
 mod by_arc_split;
+mod cap_sums;
 mod group;
 mod level_split;
 mod marks;
@@ -10,6 +11,8 @@ mod proposal_audit;
 pub use answer_forms::Checked;
 pub use answer_forms::Refusal;
 pub use by_arc_split::split_by_arc;
+pub use cap_sums::CapSumsFound;
+pub use cap_sums::list_cap_sums;
 pub use checks::check_caps;
 pub use checks::check_proposal;
 pub use checks::check_tree;

@@ -8,6 +8,7 @@ from rules import (
     WORDS,
     arc_needs,
     best_group,
+    cap_sums,
     check_caps,
     check_group,
     check_output,
@@ -95,6 +96,14 @@ def answer_level(tree, caps, out):
     return f"split {count}"
 
 
+def answer_cap_sums(tree, caps, out):
+    check_tree(tree)
+    check_caps(member_count(tree), caps)
+    check_output(out, len(tree.parents))
+    out[:] = cap_sums(tree, caps)
+    return f"total {sum(caps)}"
+
+
 def answer_by_arc(tree, out):
     check_tree(tree)
     count = member_count(tree)
@@ -120,10 +129,11 @@ ENTRIES = {
     "caps": answer_caps,
     "byarc": answer_by_arc,
     "deadends": answer_dead_ends,
+    "capsums": answer_cap_sums,
 }
 
 # the commands whose last field is the length of an output list
-WRITING = {"members", "needs", "level", "byarc", "deadends"}
+WRITING = {"members", "needs", "level", "byarc", "deadends", "capsums"}
 
 
 def shown(field):

@@ -1,7 +1,7 @@
 """Arcs without users change no answer: the same cases on the tree without them, where every dead end is marked."""
 import re
 
-from rules import Refusal, all_marked, arc_needs, arc_users, check_tree, member_vertices, whole_cost
+from rules import Refusal, all_marked, arc_needs, arc_users, cap_sums, check_tree, member_vertices, whole_cost
 from entries import answer
 
 # the commands whose answers hold no vertex, and no arc but that of refusal 9
@@ -31,8 +31,10 @@ def check_pruned(case):
     small, kept = pruned(tree)
     if small == tree:
         return
-    needs = dict(zip(kept, arc_needs(small)))
-    assert [needs.get(arc, 0) for arc in range(1, len(tree.parents) + 1)] == arc_needs(tree), case
+    caps = list(range(1, len(member_vertices(tree)) + 1))
+    for of_arcs in (arc_needs, lambda t: cap_sums(t, caps)):
+        by_arc = dict(zip(kept, of_arcs(small)))
+        assert [by_arc.get(arc, 0) for arc in range(1, len(tree.parents) + 1)] == of_arcs(tree), case
     assert [kept[vertex - 1] for vertex in member_vertices(small)] == member_vertices(tree), case
     assert whole_cost(small) == sum(small.costs) == whole_cost(tree), case
     if command in COMPARED:

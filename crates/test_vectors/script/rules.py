@@ -160,6 +160,16 @@ def arc_needs(tree):
     return needs
 
 
+def cap_sums(tree, caps):
+    """For each arc the caps of its users added up: at a member's arc its cap, elsewhere the sums of its child arcs."""
+    sums = [sum(caps[j] for j in users) for users in arc_users(tree)]
+    number = {vertex: j for j, vertex in enumerate(member_vertices(tree))}
+    for arc, total in enumerate(sums, 1):
+        children = (below for below, parent in zip(sums, tree.parents) if parent == arc)
+        assert total == (caps[number[arc]] if arc in number else sum(children)), (tree, caps)
+    return sums
+
+
 def group_cost(tree, group):
     """The costs of all arcs that at least one of the members uses."""
     vertices = member_vertices(tree)

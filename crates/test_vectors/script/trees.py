@@ -21,6 +21,7 @@ def every_entry(tree, words=words_of([0])):
         ("caps", count, [0] * count),
         ("byarc", tree, count),
         ("deadends", tree.parents, tree.costs, arcs),
+        ("capsums", tree, list(range(1, count + 1)), arcs),
     ]
 
 

@@ -7,11 +7,12 @@ use Rattle.test_lines.specs.Fields.{First, fieldsOf}
 use Rattle.test_vectors.specs.declared.command.Command.{Command}
 use Rattle.test_vectors.specs.declared.command.Command.the-variants.{Check, Count, Members, Needs, Group, Audit}
 use Rattle.test_vectors.specs.declared.command.Command.the-variants.{Shares, Level, Caps, ByArc, DeadEnds}
-use Rattle.test_vectors.specs.declared.command.Command.the-variants.{Job, Unknown}
+use Rattle.test_vectors.specs.declared.command.Command.the-variants.{CapSums, Job, Unknown}
 
 -- the commands, in the order of their names
 abbrev pub commands : List Command
-commands = Check ∷ Count ∷ Members ∷ Needs ∷ Group ∷ Audit ∷ Shares ∷ Level ∷ Caps ∷ ByArc ∷ DeadEnds ∷ Job ∷ []
+commands =
+    Check ∷ Count ∷ Members ∷ Needs ∷ Group ∷ Audit ∷ Shares ∷ Level ∷ Caps ∷ ByArc ∷ DeadEnds ∷ CapSums ∷ Job ∷ []
 
 -- how many fields a command's line has; none is right for an unknown command
 abbrev pub fieldCount : Command → ℕ
@@ -26,6 +27,7 @@ fieldCount Level = 6
 fieldCount Caps = 3
 fieldCount ByArc = 5
 fieldCount DeadEnds = 4
+fieldCount CapSums = 6
 fieldCount Job = 3
 fieldCount Unknown = 0
 

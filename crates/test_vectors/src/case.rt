@@ -94,8 +94,35 @@ fn split_level(parents: &[u16], costs: &[u32], marks: &[u16], caps: &[u64], out:
     test_lines::print::list(out);
 }
 
+// As list_members.
+fn list_cap_sums(parents: &[u16], costs: &[u32], marks: &[u16], caps: &[u64], out: &mut [u64]) {
+    print::cap_sums_found(engine::list_cap_sums(parents, costs, marks, caps, out));
+    test_lines::print::list(out);
+}
+
+fn on_caps(
+    c: Command,
+    parents: &[u16],
+    costs: &[u32],
+    marks: &[u16],
+    caps: &[u64],
+    out: &mut [u64],
+) {
+    match c {
+        Command::Level => split_level(parents, costs, marks, caps, out),
+        _ => list_cap_sums(parents, costs, marks, caps, out),
+    }
+}
+
 // As members; the field before the length has the caps.
-fn level(parents: &[u16], costs: &[u32], marks: &[u16], entries: &[u8], length: &[u8]) {
+fn with_caps(
+    c: Command,
+    parents: &[u16],
+    costs: &[u32],
+    marks: &[u16],
+    entries: &[u8],
+    length: &[u8],
+) {
     let mut caps = [0u64; MOST];
     let found = list::read(entries, u64::MAX, &mut caps);
     let wanted = number::up_to(length, MOST as u64);
@@ -108,7 +135,7 @@ fn level(parents: &[u16], costs: &[u32], marks: &[u16], entries: &[u8], length: 
     let k = found.count;
     let n = wanted.value as usize;
     let mut out = [9u64; MOST];
-    split_level(parents, costs, marks, &caps[0..k], &mut out[0..n]);
+    on_caps(c, parents, costs, marks, &caps[0..k], &mut out[0..n]);
 }
 
 // As list_members.
@@ -146,8 +173,9 @@ fn on_tree(
         Command::Needs => needs(parents, costs, marks, after_tree),
         Command::Group => group(parents, costs, marks, after_tree),
         Command::Audit => audit(parents, costs, marks, after_tree),
-        Command::Level => level(parents, costs, marks, after_tree, last),
+        Command::Level => with_caps(c, parents, costs, marks, after_tree, last),
         Command::ByArc => by_arc(parents, costs, marks, after_tree),
+        Command::CapSums => with_caps(c, parents, costs, marks, after_tree, last),
         _ => print::bad_case(),
     }
 }

@@ -16,17 +16,18 @@ pub enum Command {
     Caps,
     ByArc,
     DeadEnds,
+    CapSums,
     Job,
     Unknown,
 }
 
 pub fn named(name: &[u8]) -> Command
-    ensures { λ r. ⌜ Named (ascii "check count members needs group audit shares level caps byarc deadends job")
+    ensures { λ r. ⌜ Named (ascii "check count members needs group audit shares level caps byarc deadends capsums job")
         (now (name .entry)) r ⌝ }
 {
     match field::find(
-        b"check count members needs group audit shares level caps byarc deadends job",
-        12,
+        b"check count members needs group audit shares level caps byarc deadends capsums job",
+        13,
         name,
     ) {
         0 => Command::Check,
@@ -40,7 +41,8 @@ pub fn named(name: &[u8]) -> Command
         8 => Command::Caps,
         9 => Command::ByArc,
         10 => Command::DeadEnds,
-        11 => Command::Job,
+        11 => Command::CapSums,
+        12 => Command::Job,
         _ => Command::Unknown,
     }
 }
@@ -61,6 +63,7 @@ pub fn fields(c: Command) -> usize
         Command::Caps => 3,
         Command::ByArc => 5,
         Command::DeadEnds => 4,
+        Command::CapSums => 6,
         Command::Job => 3,
         Command::Unknown => 0,
     }

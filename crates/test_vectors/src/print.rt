@@ -1,6 +1,7 @@
 // Printing the engine's answers.
 use engine::AuditFound;
 use engine::Audited;
+use engine::CapSumsFound;
 use engine::Checked;
 use engine::GroupCost;
 use engine::LevelSplit;
@@ -42,6 +43,13 @@ pub fn needs_found(f: NeedsFound) {
             labelled(b" members ", members as u64);
         }
         NeedsFound::Refused(r) => refusal(r),
+    }
+}
+
+pub fn cap_sums_found(f: CapSumsFound) {
+    match f {
+        CapSumsFound::Total(n) => labelled(b"total ", n),
+        CapSumsFound::Refused(r) => refusal(r),
     }
 }
 

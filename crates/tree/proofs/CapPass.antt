@@ -14,7 +14,7 @@ use Rattle.basics.specs.Sum.{pick, sum, list}
 use Rattle.game.specs.Network.{Network, sumBelow, number, memberCount, members}
 use Rattle.game.specs.Tree.{ofArc}
 use Rattle.basics.proofs.Bools.{both, same-test, pick-yes, pick-no, pick-zero, pick-le}
-use Rattle.basics.proofs.Sums.{In, sum-bound}
+use Rattle.basics.proofs.Sums.{In, sum-cong, sum-bound}
 use Rattle.game.proofs.Numbering.{members-length, member-at, Vertex, vertex-of}
 use Rattle.game.proofs.Overpayment.{number-lt}
 use Rattle.game.proofs.LevelList.{view, view-off}
@@ -23,6 +23,8 @@ use Rattle.limits.specs.Limits.{mostShare, mostArcs}
 use Rattle.limits.specs.Inner.{mostTotal}
 use Rattle.tree.specs.Passes.{Capped}
 use Rattle.answers.specs.Level.{capSum}
+use Rattle.answers.specs.CapSums.{allCaps}
+use Rattle.answers.proofs.RunningSums.{all-caps-by-vertex}
 
 module _ (n : Network) {vertices : List ℕ} (listed : vertices ≡ members n) where
   pub member-count : length vertices ≡ memberCount n
@@ -137,3 +139,9 @@ module _ (n : Network) (caps : List ℕ) where
 
       pub placing-sums : list (n .arcs) (sumBelow n (ofArc out)) ≡ list (n .arcs) (capSum n caps)
       placing-sums = ap (list (n .arcs)) (fun-ext (λ k. below-cong n (ofArc out) (view n caps) k placing-end))
+
+      pub placing-total : Capped (length vertices) caps → sum (length out) (ofArc out) ≡ allCaps caps
+      placing-total c =
+          ap (λ (m : ℕ). sum m (ofArc out)) (s .kept)
+          ∙ sum-cong (n .arcs) placing-end
+          ∙ sym (all-caps-by-vertex n caps (c .sized ∙ member-count n listed))

@@ -89,6 +89,20 @@ pub fn greatest_overpayment(
     (greatest as u64, smallest.map(|g| group(tree, g)).collect())
 }
 
+/// The cap of the member at the arc's end, or else the child arcs' sums added up.
+fn cap_sum(tree: &Tree, caps: &[u64], arc: usize) -> u64 {
+    if let Some(member) = tree.members.iter().position(|&vertex| vertex == arc) {
+        return caps[member];
+    }
+    let children = (1..=tree.arcs()).filter(|&child| tree.parent[child] == arc);
+    children.map(|child| cap_sum(tree, caps, child)).sum()
+}
+
+pub fn cap_sums(tree: &Tree, caps: &[u64]) -> Vec<u64> {
+    let all = 1..=tree.arcs();
+    all.map(|arc| cap_sum(tree, caps, arc)).collect()
+}
+
 /// The level split unit by unit; none where no user is below their cap.
 pub fn level(tree: &Tree, caps: &[u64]) -> Option<Vec<u64>> {
     let mut shares = vec![0; tree.members.len()];

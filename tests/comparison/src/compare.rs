@@ -204,6 +204,28 @@ impl Network {
         tally.case("audit", expected.refusal, [given, expected], lists);
     }
 
+    pub fn list_cap_sums(&self, tally: &mut Tally, caps: &[u64], out: &[u64]) {
+        let answer = reference::list_cap_sums(self.tree(), caps, out.len());
+        let (p, c, m) = self.lend();
+        let (limits, mut lent) = (Lent::new(caps), Lent::new(out));
+        let given =
+            ffi::list_cap_sums(p.list(), c.list(), m.list(), limits.list(), lent.list_mut());
+        let expected = match &answer {
+            Ok((total, _)) => ZilqodurCapSums {
+                total: *total,
+                ..Default::default()
+            },
+            Err(r) => ZilqodurCapSums {
+                refusal: r.number,
+                place: r.place,
+                total: 0,
+            },
+        };
+        let sums = answer.map(|(_, sums)| sums);
+        let lists = self.kept(&p, &c, &m) && limits.holds(caps) && lent.holds(&written(out, sums));
+        tally.case("list_cap_sums", expected.refusal, [given, expected], lists);
+    }
+
     pub fn split_level(&self, tally: &mut Tally, caps: &[u64], out: &[u64]) {
         let answer = reference::split_level(self.tree(), caps, out.len());
         let (p, c, m) = self.lend();

@@ -49,6 +49,14 @@ pub struct ZilqodurAudit {
 
 #[repr(C)]
 #[derive(Clone, Copy, Debug, Default, PartialEq)]
+pub struct ZilqodurCapSums {
+    pub refusal: u32,
+    pub place: usize,
+    pub total: u64,
+}
+
+#[repr(C)]
+#[derive(Clone, Copy, Debug, Default, PartialEq)]
 pub struct ZilqodurLevel {
     pub refusal: u32,
     pub place: usize,
@@ -146,6 +154,18 @@ unsafe extern "C" {
         proposal: *const i64,
         proposal_count: usize,
     ) -> ZilqodurAudit;
+    fn zilqodur_list_cap_sums(
+        parents: *const u16,
+        parents_count: usize,
+        costs: *const u32,
+        costs_count: usize,
+        marks: *const u16,
+        marks_count: usize,
+        caps: *const u64,
+        caps_count: usize,
+        out: *mut u64,
+        out_count: usize,
+    ) -> ZilqodurCapSums;
     fn zilqodur_split_level(
         parents: *const u16,
         parents_count: usize,
@@ -301,6 +321,29 @@ pub fn audit(parents: &[u16], costs: &[u32], marks: &[u16], proposal: &[i64]) ->
             marks.len(),
             proposal.as_ptr(),
             proposal.len(),
+        )
+    }
+}
+
+pub fn list_cap_sums(
+    parents: &[u16],
+    costs: &[u32],
+    marks: &[u16],
+    caps: &[u64],
+    out: &mut [u64],
+) -> ZilqodurCapSums {
+    unsafe {
+        zilqodur_list_cap_sums(
+            parents.as_ptr(),
+            parents.len(),
+            costs.as_ptr(),
+            costs.len(),
+            marks.as_ptr(),
+            marks.len(),
+            caps.as_ptr(),
+            caps.len(),
+            out.as_mut_ptr(),
+            out.len(),
         )
     }
 }

@@ -136,10 +136,14 @@ fn compare_lists(tally: &mut Tally, rng: &mut Rng, network: &Network, tree: &Tre
         let mut caps = generate::caps(rng, tree);
         let length = generate::length(rng, members);
         let out = filled(rng, length, |n| n);
+        let length = generate::length(rng, tree.arcs());
+        let sums = filled(rng, length, |n| n);
         network.split_level(tally, &caps, &out);
+        network.list_cap_sums(tally, &caps, &sums);
         compare::check_caps(tally, members, &caps);
         generate::damage_caps(rng, &mut caps);
         network.split_level(tally, &caps, &out);
+        network.list_cap_sums(tally, &caps, &sums);
         compare::check_caps(tally, members, &caps);
     }
     let count = rng.pick(&[0, 1, 1_023, 1_024, 65_536 + members, usize::MAX]);
@@ -218,6 +222,11 @@ fn compare_definitions(tally: &mut Tally, rng: &mut Rng, tree: &Tree) {
         case(
             "definition of the audit",
             greatest == amount && groups == [smallest],
+        );
+        let caps = generate::caps(rng, tree);
+        case(
+            "definition of the cap sums",
+            brute::cap_sums(tree, &caps) == tree.cap_sums(&caps),
         );
     }
     if tree.whole() > 2_000 {

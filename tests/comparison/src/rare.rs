@@ -8,7 +8,7 @@ const TREE: [u32; 7] = [1, 2, 3, 4, 16, 17, 18];
 
 /// The refusals of each entry, with whether it has those of a tree too.
 #[rustfmt::skip]
-const REFUSALS: [(&str, bool, &[u32]); 13] = [
+const REFUSALS: [(&str, bool, &[u32]); 14] = [
     ("check_tree", true, &[]),
     ("check_caps", false, &[6, 7]),
     ("check_proposal", false, &[6, 7]),
@@ -18,6 +18,7 @@ const REFUSALS: [(&str, bool, &[u32]); 13] = [
     ("list_needs", true, &[8]),
     ("group_cost", true, &[5]),
     ("audit", true, &[6, 7]),
+    ("list_cap_sums", true, &[6, 7, 8]),
     ("split_level", true, &[6, 7, 8, 9]),
     ("split_by_arc", true, &[8]),
     ("read_job", false, &[10, 11, 12, 13, 14, 1, 3, 4, 15, 7]),

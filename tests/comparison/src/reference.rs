@@ -192,20 +192,23 @@ impl Tree {
         (gain[0] as u64, group.collect())
     }
 
+    /// The sum of the caps of each arc's users, entry 0 being arc 1's.
+    pub fn cap_sums(&self, caps: &[u64]) -> Vec<u64> {
+        let sum = |users: &Vec<usize>| users.iter().map(|&j| caps[j]).sum();
+        self.users[1..].iter().map(sum).collect()
+    }
+
     /// The first arc from the last down whose users' caps fall short of its need.
     pub fn check_short(&self, caps: &[u64]) -> Answer<()> {
-        let needs = self.needs();
-        for arc in (1..=self.arcs()).rev() {
-            let sum: u64 = self.users[arc].iter().map(|&j| caps[j]).sum();
-            if sum < needs[arc - 1] {
-                return Err(Refusal {
-                    number: 9,
-                    place: arc,
-                    shortfall: needs[arc - 1] - sum,
-                });
-            }
+        let (needs, sums) = (self.needs(), self.cap_sums(caps));
+        match (0..self.arcs()).rev().find(|&i| sums[i] < needs[i]) {
+            Some(i) => Err(Refusal {
+                number: 9,
+                place: i + 1,
+                shortfall: needs[i] - sums[i],
+            }),
+            None => Ok(()),
         }
-        Ok(())
     }
 
     pub fn level(&self, caps: &[u64]) -> Vec<u64> {
@@ -306,6 +309,14 @@ pub fn audit(tree: Answer<Tree>, proposal: &[i64]) -> Answer<Verdict> {
         (0, _) => Verdict::Pass,
         (amount, group) => Verdict::Objection(amount, group),
     })
+}
+
+/// The sum of all caps, and the sum for each arc.
+pub fn list_cap_sums(tree: Answer<Tree>, caps: &[u64], length: usize) -> Answer<(u64, Vec<u64>)> {
+    let tree = tree?;
+    check_caps(tree.members.len(), caps)?;
+    check_output(length, tree.arcs())?;
+    Ok((caps.iter().sum(), tree.cap_sums(caps)))
 }
 
 pub fn split_level(tree: Answer<Tree>, caps: &[u64], length: usize) -> Answer<Vec<u64>> {

@@ -66,6 +66,12 @@ fn audit(tally: &mut Tally, n: &Network, proposal: &[i64], expected: Verdict) {
     n.audit(tally, proposal);
 }
 
+fn cap_sums(tally: &mut Tally, n: &Network, caps: &[u64], total: u64, expected: &[u64]) {
+    let found = reference::list_cap_sums(n.tree(), caps, expected.len());
+    named(tally, found, Ok((total, expected.to_vec())));
+    n.list_cap_sums(tally, caps, &vec![77; expected.len()]);
+}
+
 fn level(tally: &mut Tally, n: &Network, caps: &[u64], expected: Answer<Vec<u64>>) {
     let found = reference::split_level(n.tree(), caps, caps.len());
     named(tally, found, expected);
@@ -89,6 +95,7 @@ pub fn compare(tally: &mut Tally) {
     audit(tally, &t, &[8, 4, 4], Verdict::Objection(1, vec![0]));
     audit(tally, &t, &[8, 4, 5], Verdict::WrongTotal(1));
     audit(tally, &t, &[-1, 13, 4], Verdict::Objection(2, vec![1]));
+    cap_sums(tally, &t, &[3, 9, 4], 16, &[12, 3, 9, 4]);
     level(tally, &t, &[100, 100, 100], Ok(vec![6, 6, 4]));
     level(tally, &t, &[3, 9, 4], Ok(vec![3, 9, 4]));
     let short = Refusal {
@@ -119,6 +126,7 @@ fn spare(tally: &mut Tally) {
     audit(tally, &t, &[7, 4], Verdict::Pass);
     audit(tally, &t, &[6, 5], Verdict::Objection(1, vec![1]));
     audit(tally, &t, &[12, 4], Verdict::WrongTotal(5));
+    cap_sums(tally, &t, &[3, 4], 7, &[3, 3, 0, 4]);
     level(tally, &t, &[100, 100], Ok(vec![7, 4]));
     by_arc(tally, &t, &[7, 4]);
 }

@@ -21,7 +21,7 @@ returns c =
     let sized = needed .write-needs .kept .1 .1 .0 ∙ start needed .pre .1 .1 .1 .1 .0 in
     c .first-short .ensures _
     ∙ short-answer (now (given .parents)) (now (given .costs)) (now (given .vertices)) (now (given .caps)) _ _ sized
-    (needed .write-needs .ensures .1) (summed .write-cap-sums .ensures)
+    (needed .write-needs .ensures .1) (summed .write-cap-sums .ensures .1)
 
 pub compare-spec : {M : Type 1} → statement M
 compare-spec =

@@ -8,7 +8,8 @@ use borrow.Author.Needs.{needs}
 use Rattle.game.specs.Network.{sumBelow}
 use Rattle.basics.proofs.Sums.{In}
 use Rattle.tree.specs.Passes.{Sound, Listed, networkAt}
-use Rattle.tree.proofs.CapPass.{Placing, placing-start, member-in, placing-on, placing-fits, placing-sums}
+use Rattle.tree.proofs.CapPass.{Placing, placing-start, member-in, placing-on}
+use Rattle.tree.proofs.CapPass.{placing-fits, placing-total, placing-sums}
 use Rattle.tree.proofs.caps.write_cap_sums.Statement.{statement}
 use Rattle.tree.proofs.caps.write_cap_sums.Tie as tie
 
@@ -74,8 +75,13 @@ add-up-requires c κs =
 returns : tie.Need-returns Inv-loop μ-loop
 unfolding sumBelow
 returns c =
-    let inv = c .before .before .before .before .before .loop .inv in
-    c .before .before .add-up .ensures .1 ∙ placing-sums _ _ (inv .1 .are) (omega arith) (inv .2)
+    let at = c .before .before .before .before .before in
+    let inv = at .loop .inv in
+    let sums = c .before .before .add-up .ensures in
+    let pre = start (filled at) .pre in (
+      sums .0 ∙ placing-total _ _ (inv .1 .are) (omega arith) (inv .2) (pre .1 .1 .0),
+      sums .1 ∙ placing-sums _ _ (inv .1 .are) (omega arith) (inv .2),
+    )
 
 pub write-cap-sums-spec : {M : Type 1} → statement M
 write-cap-sums-spec =

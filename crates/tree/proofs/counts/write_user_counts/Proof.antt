@@ -23,7 +23,7 @@ returns c =
     let filled = summed .before .before .before .before .before in
     let args = start filled .args in
     let pre = start filled .pre in
-    summed .write-cap-sums .ensures
+    summed .write-cap-sums .ensures .1
     ∙ ones-count (filled .write-all .ensures) (networkAt (now (args .parents)) [] (now (args .vertices)))
     (pre .1 .1 .0 ∙ vertices-count _ _ (pre .1 .0))
 
