@@ -1,7 +1,7 @@
 // The report on a job as text. It refuses nothing: a refused job has a report too.
 use report_text::ROOM;
 ghost use mathlib.Core.Path.{_≡_};
-ghost use Rattle.text.specs.Put.{Put};
+ghost use Rattle.buffer.specs.Put.{Put};
 ghost use Rattle.report_text.specs.Report.{reportText};
 ghost use Rattle.capi.specs.Structs.{encodeReport};
 

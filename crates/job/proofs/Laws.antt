@@ -1,14 +1,16 @@
 -- The laws of the reader.
 use Prim.Native.Nat.{ℕ}
-use mathlib.Core.Path.{_≡_, sym}
+use mathlib.Core.Path.{_≡_, sym, ap, _∙_}
 use mathlib.Core.List.{List, _++_}
 use lib.ListN.{drop}
 use Rattle.basics.proofs.Lists.{entries-front}
 use Rattle.answer_forms.specs.Answer.{accepted}
 use Rattle.answer_forms.proofs.Composed.{second-accepted, answered}
-use Rattle.job_bytes.specs.Format.{arcOffset, memberOffset, jobArcs, jobMembers}
+use Rattle.job_bytes.specs.Numbers.{Bytes}
+use Rattle.job_bytes.specs.JobBytes.{jobBytes}
+use Rattle.job_bytes.specs.Format.{arcOffset, memberOffset, jobArcs, jobMembers, jobContents}
 use Rattle.job_bytes.specs.Format.{parentAt, costAt, capAt, proposalAt, jobParents, jobCosts, jobCaps, jobProposals}
-use Rattle.job_form.proofs.SameJob.{same-job}
+use Rattle.job_form.proofs.WrittenAgain.{written-again}
 use Rattle.job.specs.JobCheck.{jobCheck}
 use Rattle.job.specs.Reader.{Lent, lent, roomIn, readCheck, jobValue, jobAnswer, jobLists}
 use Rattle.job.specs.Laws.{Usable, ReadUsable, Determined}
@@ -46,11 +48,9 @@ read-usable bytes l v e =
     let read = answered (readCheck bytes l) (jobValue bytes) v e in
     rw (read .1) (usable bytes l (read .0))
 
+-- a job that was read is made of what it holds
+made : (bytes : List ℕ) → Bytes bytes → jobCheck bytes ≡ accepted → jobBytes (jobContents bytes) ≡ bytes
+made bytes b e = let ok = job-accepted bytes e in written-again bytes b (ok .form) (ok .fillers)
+
 pub determined : Determined
-determined a b as-bytes bs-bytes ea eb alike =
-    let ja = job-accepted a ea in
-    let jb = job-accepted b eb in
-    same-job a b
-    (record { are-bytes = as-bytes; form = ja .form; fillers = ja .fillers })
-    (record { are-bytes = bs-bytes; form = jb .form; fillers = jb .fillers })
-    alike
+determined a b as-bytes bs-bytes ea eb same = sym (made a as-bytes ea) ∙ ap jobBytes same ∙ made b bs-bytes eb

@@ -3,8 +3,9 @@ use mathlib.Core.Path.{refl}
 use Rattle.basics.specs.Sum.{entries}
 use Rattle.game.specs.Tree.{hasChild, deadEnds}
 use Rattle.answers.specs.Checks.{arcByArc, treeCheck, rangeCheck}
-use Rattle.job_bytes.specs.Numbers.{littleEndian}
-use Rattle.numbers.specs.Signed.{signed64}
+use Rattle.numbers.specs.Signed.{signed64, bits64}
+use Rattle.job_bytes.specs.Numbers.{littleEndian, inBytes}
+use Rattle.job_bytes.specs.JobBytes.{arcRow, memberRow, trailer}
 use Rattle.job_bytes.specs.Format.{arcOffset, memberOffset, jobArcs, jobMembers, version}
 use Rattle.job_form.specs.Form.{formCheck, fillersFrom}
 use Rattle.job.specs.JobCheck.{sharesCheck, valuesCheck, jobCheck}
@@ -12,7 +13,8 @@ use Rattle.job.specs.Reader.{readCheck, jobAnswer, jobLists}
 use Rattle.job.specs.Table.{JobTable}
 
 pub table : JobTable
-unfolding hasChild deadEnds arcByArc treeCheck rangeCheck littleEndian signed64 entries arcOffset memberOffset
+unfolding hasChild deadEnds arcByArc treeCheck rangeCheck littleEndian signed64 bits64 inBytes entries
+    arcRow memberRow trailer arcOffset memberOffset
     jobArcs jobMembers version formCheck fillersFrom sharesCheck valuesCheck jobCheck readCheck jobAnswer jobLists
 table =
     record {

@@ -9,7 +9,7 @@ use Rattle.answer_forms.specs.Answer.{accepted, value}
 use Rattle.answers.specs.Checks.{treeCheck, proposalCheck}
 use Rattle.answers.specs.Level.{capsCheck}
 use Rattle.job_bytes.specs.Numbers.{Bytes}
-use Rattle.job_bytes.specs.Format.{Alike}
+use Rattle.job_bytes.specs.Format.{jobContents}
 use Rattle.job.specs.JobCheck.{jobCheck}
 use Rattle.job.specs.Reader.{Lent, JobValue, jobAnswer, jobLists}
 
@@ -30,4 +30,5 @@ ReadUsable = (bytes : List ℕ) (l : Lent) (v : JobValue) → jobAnswer bytes l 
 
 -- two accepted jobs with the same note and the same values have the same bytes
 abbrev pub Determined : Type 0
-Determined = (a b : List ℕ) → Bytes a → Bytes b → jobCheck a ≡ accepted → jobCheck b ≡ accepted → Alike a b → a ≡ b
+Determined = (a b : List ℕ) → Bytes a → Bytes b → jobCheck a ≡ accepted → jobCheck b ≡ accepted
+    → jobContents a ≡ jobContents b → a ≡ b

@@ -1,33 +1,13 @@
 -- Examples of jobs, as one statement about the reader's answers and lists.
-use Prim.Native.Nat.{ℕ, zero, suc, _-_, _/_, _%_, _^_}
+use Prim.Native.Nat.{ℕ}
 use mathlib.Core.Path.{_≡_}
 use mathlib.Core.List.{List, [], _∷_, _++_}
 use lib.ListN.{length, take, replicate}
 use lib.IntN.{pos, negsuc}
 use Rattle.answer_forms.specs.Answer.{value, refusal, refused}
+use Rattle.job_bytes.specs.JobBytes.{arcRow, memberRow, trailer}
 use Rattle.job.specs.JobCheck.{valuesCheck}
 use Rattle.job.specs.Reader.{Lent, lent, jobAnswer, jobLists}
-
--- a number in this many bytes, the least significant first
-abbrev pub inBytes : ℕ → ℕ → List ℕ
-inBytes zero x = []
-inBytes (suc width) x = x % 256 ∷ inBytes width (x / 256)
-
--- the rows and the trailer; a proposal is given by its 64 bits
-abbrev pub arcRow : ℕ → ℕ → ℕ → List ℕ
-arcRow parent filler cost = inBytes 2 parent ++ inBytes 2 filler ++ inBytes 4 cost
-
-abbrev pub memberRow : ℕ → ℕ → List ℕ
-memberRow cap proposal = inBytes 8 cap ++ inBytes 8 proposal
-
-abbrev pub trailer : ℕ → ℕ → ℕ → ℕ → ℕ → List ℕ
-trailer arcs-at members-at arcs members version =
-    inBytes 4 arcs-at
-    ++ inBytes 4 members-at
-    ++ inBytes 2 arcs
-    ++ inBytes 2 members
-    ++ inBytes 2 version
-    ++ (84 ∷ 74 ∷ [])
 
 -- the tree T of the specification, §10
 abbrev pub T-arcs : List ℕ
@@ -35,16 +15,21 @@ T-arcs = arcRow 0 0 6 ++ arcRow 1 0 1 ++ arcRow 1 0 5 ++ arcRow 0 0 4
 
 -- T with no note, caps 100 and the proposal 8 4 4
 abbrev pub T-job : List ℕ
-T-job = T-arcs ++ memberRow 100 8 ++ memberRow 100 4 ++ memberRow 100 4 ++ trailer 0 32 4 3 1
+T-job = T-arcs ++ memberRow 100 (pos 8) ++ memberRow 100 (pos 4) ++ memberRow 100 (pos 4) ++ trailer 0 32 4 3 1
 
 -- T with a note of two bytes and the proposal -1 13 4
 abbrev pub noted-job : List ℕ
 noted-job =
-    (7 ∷ 9 ∷ []) ++ T-arcs ++ memberRow 100 (2 ^ 64 - 1) ++ memberRow 100 13 ++ memberRow 100 4 ++ trailer 2 34 4 3 1
+    (7 ∷ 9 ∷ [])
+    ++ T-arcs
+    ++ memberRow 100 (negsuc 0)
+    ++ memberRow 100 (pos 13)
+    ++ memberRow 100 (pos 4)
+    ++ trailer 2 34 4 3 1
 
 -- T with one member row less
 abbrev pub fewer-job : List ℕ
-fewer-job = T-arcs ++ memberRow 100 8 ++ memberRow 100 4 ++ trailer 0 32 4 2 1
+fewer-job = T-arcs ++ memberRow 100 (pos 8) ++ memberRow 100 (pos 4) ++ trailer 0 32 4 2 1
 
 -- one above the greatest cost, and one above the greatest cap and share
 abbrev pub costAbove : ℕ
@@ -60,8 +45,8 @@ abbrev pub order-job : (version members-at filler₂ parent₁ cost₁ parent₂
 order-job version members-at filler₂ parent₁ cost₁ parent₂ cap₁ proposal₀ =
     arcRow parent₁ 0 cost₁
     ++ arcRow parent₂ filler₂ 1
-    ++ memberRow 100 proposal₀
-    ++ memberRow cap₁ 1
+    ++ memberRow 100 (pos proposal₀)
+    ++ memberRow cap₁ (pos 1)
     ++ trailer 0 members-at 2 2 version
 
 -- the same with each of them at fault
@@ -114,4 +99,4 @@ pub record JobTable : Type 0 where
   pub many-14 : Refuses (many-job 1) (lists 1023) 14 1
   pub many-1 : valuesCheck (many-job 0) ≡ refused 1 0
   -- 1 where there are no arcs, before 15
-  pub none-1 : Refuses (memberRow 100 8 ++ trailer 0 0 0 1 1) (lists 1023) 1 0
+  pub none-1 : Refuses (memberRow 100 (pos 8) ++ trailer 0 0 0 1 1) (lists 1023) 1 0

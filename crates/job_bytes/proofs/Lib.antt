@@ -1,3 +1,4 @@
 mod Reading
 pub mod Entries
-pub mod Determined
+pub mod Standing
+pub mod Parts

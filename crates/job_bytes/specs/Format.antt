@@ -1,12 +1,12 @@
 -- The bytes of a job: its trailer, its rows, and the values that they hold.
 use Prim.Native.Nat.{ℕ, _+_, _*_, _-_}
-use mathlib.Core.Path.{_≡_}
 use mathlib.Core.List.{List}
 use lib.ListN.{length, take}
 use lib.IntN.{ℤ}
 use Rattle.basics.specs.Sum.{entries}
 use Rattle.numbers.specs.Signed.{signed64}
 use Rattle.job_bytes.specs.Numbers.{byteAt, littleEndian}
+use Rattle.job_bytes.specs.JobBytes.{Contents}
 
 -- the trailer: the last 16 bytes
 abbrev pub trailerAt : List ℕ → ℕ
@@ -70,10 +70,13 @@ jobCaps bytes = entries (jobMembers bytes) (capAt bytes (memberOffset bytes))
 abbrev pub jobProposals : List ℕ → List ℤ
 jobProposals bytes = entries (jobMembers bytes) (proposalAt bytes (memberOffset bytes))
 
--- two jobs with the same note and the same values
-pub record Alike (a b : List ℕ) : Type 0 where
-  pub notes : jobNote a ≡ jobNote b
-  pub parents : jobParents a ≡ jobParents b
-  pub costs : jobCosts a ≡ jobCosts b
-  pub caps : jobCaps a ≡ jobCaps b
-  pub proposals : jobProposals a ≡ jobProposals b
+-- all that a job holds
+abbrev pub jobContents : List ℕ → Contents
+jobContents bytes =
+    record {
+      note = jobNote bytes;
+      parents = jobParents bytes;
+      costs = jobCosts bytes;
+      caps = jobCaps bytes;
+      proposals = jobProposals bytes;
+    }

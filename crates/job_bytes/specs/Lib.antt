@@ -1,3 +1,4 @@
 pub mod Numbers
+pub mod JobBytes
 pub mod Format
 pub mod Inner

@@ -1,3 +1,3 @@
 mod Rows
 pub mod FormAccepted
-pub mod SameJob
+pub mod WrittenAgain

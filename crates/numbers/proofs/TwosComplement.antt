@@ -2,6 +2,7 @@
 use Prim.Native.Nat.{ℕ, zero, suc, _-_, _^_, _<_, _≤_}
 use mathlib.Core.Path.{_≡_, refl, ap}
 use mathlib.Core.Bool.{true, false, true≢false}
+use native.Mathlib.Decide.{decLt}
 use native.Mathlib.Omega.{arith}
 use borrow.Author.Tests.{ltb-true, lt-ltb, le-ltb}
 use lib.IntN.{ℤ, pos, negsuc, _-ℤ_, subℕ}
@@ -9,7 +10,7 @@ use lib.Signed.{mag, ltZ}
 use mir.Syntax.{w64}
 use mir.Val.{SFits, toZ, ofZ}
 use mir.Facts.{toZ-ofZ}
-use Rattle.numbers.specs.Signed.{signed64}
+use Rattle.numbers.specs.Signed.{signed64, bits64}
 
 below-zero : (z : ℤ) → ltZ z (pos 0) ≡ true → z ≡ negsuc (mag z)
 below-zero (pos a) e = absurd (omega (arith, ltb-true a 0 e))
@@ -46,3 +47,12 @@ lower bits h = rw (lt-ltb bits (2 ^ 63) h)
 pub upper : (bits : ℕ) → 2 ^ 63 ≤ bits → signed64 bits ≡ negsuc (2 ^ 64 - 1 - bits)
 unfolding signed64
 upper bits h = rw (le-ltb bits (2 ^ 63) h)
+
+-- the bits of the number with these bits
+pub bits-of-signed : (bits : ℕ) → bits < 2 ^ 64 → bits64 (signed64 bits) ≡ bits
+unfolding bits64
+bits-of-signed bits h =
+    elim (decLt bits (2 ^ 63)) [
+      | yes l ↦ rw (lower bits l)
+      | no l ↦ rw (upper bits (omega arith)) (omega arith)
+    ]

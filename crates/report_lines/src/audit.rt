@@ -8,7 +8,7 @@ ghost use Prim.Native.Nat.{_+_, _*_, _%_, _≤_};
 ghost use lib.ListN.{length};
 ghost use Rattle.basics.specs.Bit.{digit};
 ghost use Rattle.engine.specs.Outcomes.{auditOf};
-ghost use Rattle.text.specs.Put.{Put};
+ghost use Rattle.buffer.specs.Put.{Put};
 ghost use Rattle.report_lines.specs.Lines.{labelled, groupText, objectionLine, totalLine, auditLine};
 ghost use Rattle.limits.specs.Limits.{mostArcs, groupBits};
 
@@ -56,9 +56,9 @@ fn put_objection(
 {
     let a = text::put_labelled(out, at, b"audit group ", amount);
     let b = text::put_labelled(out, a, b" of ", size as u64);
-    let c = text::put(out, b, b":");
+    let c = buffer::put(out, b, b":");
     let d = put_group(out, c, words, members);
-    text::put(out, d, b"\n")
+    buffer::put(out, d, b"\n")
 }
 
 fn put_total(out: &mut [u8], at: usize, difference: i64) -> usize
@@ -67,7 +67,7 @@ fn put_total(out: &mut [u8], at: usize, difference: i64) -> usize
     ensures { λ r. ⌜ r ≤ at + 100 ⌝ }
 {
     let a = text::put_labelled_signed(out, at, b"audit total ", difference);
-    text::put(out, a, b"\n")
+    buffer::put(out, a, b"\n")
 }
 
 // The line has room in 22,000 bytes.
@@ -85,7 +85,7 @@ pub fn put_audit(out: &mut [u8], at: usize, members: usize, audited: Audited) ->
         AuditFound::Objection { amount, size } => {
             put_objection(out, at, amount, size, group, members)
         }
-        AuditFound::Pass => text::put(out, at, b"audit pass\n"),
+        AuditFound::Pass => buffer::put(out, at, b"audit pass\n"),
         AuditFound::Refused(r) => put_refused(out, at, r.number, r.place),
     }
 }

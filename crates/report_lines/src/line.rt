@@ -4,7 +4,7 @@ use engine::NeedsFound;
 ghost use Prim.Native.Nat.{_+_, _≤_};
 ghost use lib.ListN.{length};
 ghost use Rattle.engine.specs.Outcomes.{needsOf, levelOf};
-ghost use Rattle.text.specs.Put.{Put};
+ghost use Rattle.buffer.specs.Put.{Put};
 ghost use Rattle.report_lines.specs.Lines.{refusedLine, costLine, shortLine, levelLine};
 ghost use Rattle.report_lines.specs.Inner.{needsLine};
 
@@ -15,7 +15,7 @@ pub fn put_refused(out: &mut [u8], at: usize, number: u32, place: usize) -> usiz
 {
     let a = text::put_labelled(out, at, b"refused ", number as u64);
     let b = text::put_labelled(out, a, b" at ", place as u64);
-    text::put(out, b, b"\n")
+    buffer::put(out, b, b"\n")
 }
 
 fn put_cost(out: &mut [u8], at: usize, whole: u64, members: usize) -> usize
@@ -25,7 +25,7 @@ fn put_cost(out: &mut [u8], at: usize, whole: u64, members: usize) -> usize
 {
     let a = text::put_labelled(out, at, b"cost ", whole);
     let b = text::put_labelled(out, a, b" members ", members as u64);
-    text::put(out, b, b"\n")
+    buffer::put(out, b, b"\n")
 }
 
 pub fn put_needs(out: &mut [u8], at: usize, found: NeedsFound) -> usize
@@ -47,7 +47,7 @@ fn put_short(out: &mut [u8], at: usize, number: u32, place: usize, shortfall: u6
     let a = text::put_labelled(out, at, b"level refused ", number as u64);
     let b = text::put_labelled(out, a, b" at ", place as u64);
     let c = text::put_labelled(out, b, b" short ", shortfall);
-    text::put(out, c, b"\n")
+    buffer::put(out, c, b"\n")
 }
 
 pub fn put_level(out: &mut [u8], at: usize, level: LevelSplit) -> usize
@@ -56,7 +56,7 @@ pub fn put_level(out: &mut [u8], at: usize, level: LevelSplit) -> usize
     ensures { λ r. ⌜ r ≤ at + 100 ⌝ }
 {
     match level {
-        LevelSplit::Split(_) => text::put(out, at, b"level ok\n"),
+        LevelSplit::Split(_) => buffer::put(out, at, b"level ok\n"),
         LevelSplit::Refused {
             number,
             place,

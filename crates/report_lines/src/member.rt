@@ -4,7 +4,7 @@ ghost use mathlib.Core.Path.{_≡_};
 ghost use Prim.Native.Nat.{_+_, _*_, _≤_};
 ghost use lib.ListN.{length};
 ghost use Rattle.engine.specs.Outcomes.{levelOf};
-ghost use Rattle.text.specs.Put.{Put};
+ghost use Rattle.buffer.specs.Put.{Put};
 ghost use Rattle.report_lines.specs.Lines.{levelShare, memberLine, memberLines};
 
 fn put_share(out: &mut [u8], at: usize, level: LevelSplit, share: u64) -> usize
@@ -14,7 +14,7 @@ fn put_share(out: &mut [u8], at: usize, level: LevelSplit, share: u64) -> usize
 {
     match level {
         LevelSplit::Split(_) => text::put_labelled(out, at, b" level ", share),
-        LevelSplit::Refused { .. } => text::put(out, at, b" level -"),
+        LevelSplit::Refused { .. } => buffer::put(out, at, b" level -"),
     }
 }
 
@@ -38,7 +38,7 @@ fn put_member(
     let c = text::put_labelled_signed(out, b, b": proposed ", proposed);
     let d = text::put_labelled(out, c, b" by-arc ", by_arc);
     let e = put_share(out, d, level, share);
-    text::put(out, e, b"\n")
+    buffer::put(out, e, b"\n")
 }
 
 // The lists have an entry a member.

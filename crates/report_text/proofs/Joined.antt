@@ -9,8 +9,8 @@ use Rattle.answer_forms.specs.Answer.{Answer}
 use Rattle.answers.specs.Audit.{Verdict, auditAnswer, auditWords}
 use Rattle.answers.specs.Level.{LevelAnswer, levelAnswer, levelList}
 use Rattle.answers.specs.ByArc.{byArcList}
-use Rattle.text.specs.Put.{Put}
-use Rattle.text.proofs.Pieces.{put-then}
+use Rattle.buffer.specs.Put.{Put}
+use Rattle.buffer.proofs.Pieces.{put-then}
 use Rattle.report_lines.specs.Lines.{auditLine, levelLine, memberLines}
 use Rattle.report_text.specs.Report.{blank, costText, treeText, splitText}
 

@@ -13,8 +13,9 @@ use Rattle.answers.specs.Checks.{arcByArc, treeCheck, rangeCheck}
 use Rattle.answers.specs.Audit.{verdict, auditAnswer, auditWords}
 use Rattle.answers.specs.Level.{shortArc, levelAnswer, levelList}
 use Rattle.answers.specs.ByArc.{byArcList}
-use Rattle.job_bytes.specs.Numbers.{littleEndian}
-use Rattle.numbers.specs.Signed.{signed64}
+use Rattle.numbers.specs.Signed.{signed64, bits64}
+use Rattle.job_bytes.specs.Numbers.{littleEndian, inBytes}
+use Rattle.job_bytes.specs.JobBytes.{arcRow, memberRow, trailer}
 use Rattle.job_bytes.specs.Format.{arcOffset, memberOffset, jobArcs, jobMembers, version}
 use Rattle.job_form.specs.Form.{formCheck, fillersFrom}
 use Rattle.job.specs.JobCheck.{sharesCheck, valuesCheck, jobCheck}
@@ -27,7 +28,7 @@ pub table : ReportTable
 unfolding climb used groupCost sumBelow wholeCost membersTo hasChild deadEnds countedCosts bit size wordsOf
     pays groups best named
     firstLeast units arcsDown giveArc byArcDown arcByArc treeCheck rangeCheck verdict auditAnswer auditWords
-    shortArc levelAnswer levelList byArcList littleEndian signed64 entries arcOffset memberOffset jobArcs
-    jobMembers version formCheck fillersFrom sharesCheck valuesCheck jobCheck decimalIn decimal signedDecimal
+    shortArc levelAnswer levelList byArcList littleEndian signed64 inBytes bits64 entries
+    arcRow memberRow trailer arcOffset memberOffset jobArcs jobMembers version formCheck fillersFrom sharesCheck valuesCheck jobCheck decimalIn decimal signedDecimal
     groupText memberLines treeText splitText reportText
 table = record { T-report = refl; refused-report = refl }

@@ -11,7 +11,7 @@ ghost use Rattle.game.specs.Network.{memberCount};
 ghost use Rattle.game.specs.Tree.{treeOf, network, deadEndTree};
 ghost use Rattle.answer_forms.specs.Answer.{accepted};
 ghost use Rattle.answers.specs.Checks.{treeCheck};
-ghost use Rattle.text.specs.Put.{Put};
+ghost use Rattle.buffer.specs.Put.{Put};
 ghost use Rattle.report_text.specs.Report.{blank, costText, treeText, splitText, jobText};
 
 // `needs` is room for one entry an arc.

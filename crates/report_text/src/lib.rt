@@ -8,7 +8,7 @@ use report_lines::put_refused;
 ghost use mathlib.Core.Path.{_≡_};
 ghost use Prim.Native.Nat.{_≤_};
 ghost use lib.ListN.{length};
-ghost use Rattle.text.specs.Put.{Put};
+ghost use Rattle.buffer.specs.Put.{Put};
 ghost use Rattle.report_text.specs.Report.{reportText};
 ghost use Rattle.limits.specs.Limits.{mostArcs};
 

@@ -1,9 +1,9 @@
 // Numbers in decimal.
-use crate::piece::put;
+use buffer::put;
 ghost use mathlib.Core.List.{_++_};
 ghost use Prim.Native.Nat.{_+_, _≤_};
 ghost use lib.ListN.{length};
-ghost use Rattle.text.specs.Put.{Put};
+ghost use Rattle.buffer.specs.Put.{Put};
 ghost use Rattle.text.specs.Decimal.{decimal, signedDecimal};
 
 // A 64-bit number has at most 20 digits.

@@ -3,7 +3,7 @@ use mathlib.Core.Path.{refl}
 use native.Mathlib.Omega.{arith}
 use Rattle.basics.specs.Bit.{bit}
 use Rattle.report_lines.specs.Lines.{groupText}
-use Rattle.report_lines.proofs.Listing.{Listed, listed-start, listed-on, listed-end}
+use Rattle.buffer.proofs.Listing.{Listed, listed-start, listed-on, listed-end}
 use borrow.Author.Needs.{needs}
 use Rattle.report_lines.proofs.audit.put_group.Statement.{statement}
 use Rattle.report_lines.proofs.audit.put_group.Tie as tie

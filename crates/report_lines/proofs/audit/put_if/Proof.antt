@@ -1,6 +1,6 @@
 use mathlib.Core.Path.{sym, _∙_}
 use native.Mathlib.Omega.{arith}
-use Rattle.text.proofs.Pieces.{put-none}
+use Rattle.buffer.proofs.Pieces.{put-none}
 use borrow.Author.Needs.{needs}
 use Rattle.report_lines.proofs.audit.put_if.Statement.{statement}
 use Rattle.report_lines.proofs.audit.put_if.Tie as tie

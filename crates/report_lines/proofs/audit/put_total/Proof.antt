@@ -1,6 +1,6 @@
 use native.Mathlib.Omega.{arith}
 use mir.Facts.{toZ-ofZ}
-use Rattle.text.proofs.Pieces.{put-then}
+use Rattle.buffer.proofs.Pieces.{put-then}
 use borrow.Author.Needs.{needs}
 use Rattle.report_lines.proofs.audit.put_total.Statement.{statement}
 use Rattle.report_lines.proofs.audit.put_total.Tie as tie

@@ -5,7 +5,7 @@ use mir.Syntax.{w64}
 use mir.Facts.{toZ-ofZ}
 use Rattle.engine.specs.Outcomes.{levelOf}
 use Rattle.report_lines.specs.Lines.{memberLines}
-use Rattle.report_lines.proofs.Listing.{Listed, listed-start, listed-on, listed-end}
+use Rattle.buffer.proofs.Listing.{Listed, listed-start, listed-on, listed-end}
 use borrow.Author.Needs.{needs}
 use Rattle.report_lines.proofs.member.put_members.Statement.{statement}
 use Rattle.report_lines.proofs.member.put_members.Tie as tie

@@ -5,7 +5,7 @@ use denote.Ref.{now}
 use lib.ListN.{length, take, replicate}
 use Rattle.limits.specs.Limits.{mostArcs}
 use Rattle.game.specs.Tree.{treeOf}
-use Rattle.text.proofs.Pieces.{put-then}
+use Rattle.buffer.proofs.Pieces.{put-then}
 use Rattle.report_text.specs.Report.{blank}
 use Rattle.report_text.proofs.Found.{few-members, zeros}
 use borrow.Author.Needs.{needs}

@@ -1,6 +1,6 @@
 use native.Mathlib.Omega.{arith}
 use borrow.Author.Needs.{needs}
-use Rattle.text.proofs.Pieces.{put-then}
+use Rattle.buffer.proofs.Pieces.{put-then}
 use Rattle.text.proofs.number.put_labelled.Statement.{statement}
 use Rattle.text.proofs.number.put_labelled.Tie as tie
 

@@ -1,7 +1,7 @@
 use native.Mathlib.Omega.{arith}
 use mir.Facts.{toZ-ofZ}
 use borrow.Author.Needs.{needs}
-use Rattle.text.proofs.Pieces.{put-then}
+use Rattle.buffer.proofs.Pieces.{put-then}
 use Rattle.text.proofs.number.put_labelled_signed.Statement.{statement}
 use Rattle.text.proofs.number.put_labelled_signed.Tie as tie
 

@@ -4,8 +4,8 @@ use native.Mathlib.Numerals.{add-one}
 use mathlib.Core.Path.{_≡_}
 use mathlib.Core.List.{List, [], _++_}
 use native.Mathlib.Omega.{arith}
-use Rattle.text.specs.Put.{Put}
-use Rattle.text.proofs.Pieces.{put-none, put-then}
+use Rattle.buffer.specs.Put.{Put}
+use Rattle.buffer.proofs.Pieces.{put-none, put-then}
 use lib.ListN.{length}
 
 -- `text j` is what the numbers below j say, each in at most `most` bytes; it is written for the first j of n

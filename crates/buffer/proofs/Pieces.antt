@@ -10,7 +10,7 @@ use mathlib.Core.List.{List, [], _∷_, _++_}
 use native.Mathlib.Omega.{arith}
 use lib.ListN.{length, take, drop, getD, set, length-append, length-set}
 use lib.Seq.{sets, sets-eq, paste, paste-zero, paste-suc, take-length}
-use Rattle.text.specs.Put.{Put}
+use Rattle.buffer.specs.Put.{Put}
 
 sets-append : (s t l : List ℕ) (i : ℕ) → sets (sets l i s) (i + length s) t ≡ sets l i (s ++ t)
 sets-append [] t l i = rw add-zero

@@ -1,9 +1,9 @@
 use Prim.Native.Nat.{_-_}
 use lib.ListN.{length}
 use borrow.Author.Needs.{needs}
-use Rattle.text.proofs.Pieces.{Copying, copy-start, copy-on, copy-end}
-use Rattle.text.proofs.piece.put.Statement.{statement}
-use Rattle.text.proofs.piece.put.Tie as tie
+use Rattle.buffer.proofs.Pieces.{Copying, copy-start, copy-on, copy-end}
+use Rattle.buffer.proofs.put.Statement.{statement}
+use Rattle.buffer.proofs.put.Tie as tie
 
 abbrev Inv-loop : tie.InvT-loop
 Inv-loop out₀ at piece i₀ out i = Copying out₀ at piece i out

@@ -1,7 +1,7 @@
-// Bytes as they are.
+// Bytes written into a lent list at a place.
 ghost use Prim.Native.Nat.{_+_, _≤_};
 ghost use lib.ListN.{length};
-ghost use Rattle.text.specs.Put.{Put};
+ghost use Rattle.buffer.specs.Put.{Put};
 
 pub fn put(out: &mut [u8], at: usize, piece: &[u8]) -> usize
     requires { ⌜ at + length (now piece) ≤ length (now out) ⌝ }
