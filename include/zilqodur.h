@@ -54,7 +54,9 @@ enum ZilqodurRefusal {
     ZILQODUR_JOB_MEMBERS = 15,
     ZILQODUR_MARK = 16, /* [arc] */
     ZILQODUR_MARK_CHILD = 17, /* [arc] */
-    ZILQODUR_NO_MARK = 18
+    ZILQODUR_NO_MARK = 18,
+    ZILQODUR_NOTE_LENGTH = 19,
+    ZILQODUR_JOB_SPACE = 20
 };
 
 /* What a refusal's number says, as a sentence for a person. The strings are constants; nobody frees them. */
@@ -79,12 +81,17 @@ static inline const char *zilqodur_refusal_text(uint32_t refusal) {
         case ZILQODUR_MARK: return "a mark is neither 0 nor 1";
         case ZILQODUR_MARK_CHILD: return "a marked vertex has a child";
         case ZILQODUR_NO_MARK: return "no vertex is marked";
+        case ZILQODUR_NOTE_LENGTH: return "the note is longer than 255 bytes";
+        case ZILQODUR_JOB_SPACE: return "the output is shorter than the job";
         default: return "no refusal has this number";
     }
 }
 
 /* The greatest number of arcs, and so of members, of a tree: the entries that zilqodur_read_job asks of each of its four lists. */
 #define ZILQODUR_MOST_ARCS 1023
+
+/* The number of bytes of the longest job: in `out` of zilqodur_write_job they are room for every job. */
+#define ZILQODUR_MOST_JOB_BYTES 24823
 
 /* The number of bytes that zilqodur_report asks of its `out`: room for the longest report. */
 #define ZILQODUR_REPORT_ROOM 196608
@@ -151,6 +158,12 @@ typedef struct ZilqodurJob {
     size_t members; /* the number of members: entries written to `caps` and to `proposals` */
     size_t note;    /* the length of the note, which stands at the job's start */
 } ZilqodurJob;
+
+typedef struct ZilqodurJobLength {
+    uint32_t refusal;
+    size_t place;
+    size_t length; /* the number of bytes of the job */
+} ZilqodurJobLength;
 
 typedef struct ZilqodurReport {
     uint32_t refusal; /* always 0 */
@@ -226,6 +239,22 @@ ZilqodurMembers zilqodur_split_by_arc(const uint16_t *parents, size_t parents_co
  * proposals. */
 ZilqodurJob zilqodur_read_job(const uint8_t *bytes, size_t bytes_count, uint16_t *parents, size_t parents_count, uint32_t *costs,
                               size_t costs_count, uint64_t *caps, size_t caps_count, int64_t *proposals, size_t proposals_count);
+
+/* The number of bytes of the job that zilqodur_write_job writes from the same note and lists: the note's, 8 an arc, 16 a member and 16.
+ * `note` has 0 to 255 bytes of any content; its pointer is non-null also where it has none. The members are all dead ends: `caps` has one
+ * cap a member, each from 0 to 2,000,000,000,000, and `proposals` one share a member, each from -2,000,000,000,000 to 2,000,000,000,000.
+ * Refusals, in this order: 1, 2 on the costs alone, then 3 and 4 arc by arc, 6 and 7 on caps, 6 and 7 on proposals, 19. */
+ZilqodurJobLength zilqodur_job_length(const uint8_t *note, size_t note_count, const uint16_t *parents, size_t parents_count,
+                                      const uint32_t *costs, size_t costs_count, const uint64_t *caps, size_t caps_count,
+                                      const int64_t *proposals, size_t proposals_count);
+
+/* Writes a job of version 1 to the front of `out` and keeps the other bytes of `out`. The note and the lists are those of
+ * zilqodur_job_length; `out` has at least as many bytes as the job, whose length is answered. zilqodur_read_job accepts the job and gives
+ * back its note and values; any job that it accepts, written again from its note and values, has the same bytes. Refusals: those of
+ * zilqodur_job_length, then 20. */
+ZilqodurJobLength zilqodur_write_job(const uint8_t *note, size_t note_count, const uint16_t *parents, size_t parents_count,
+                                     const uint32_t *costs, size_t costs_count, const uint64_t *caps, size_t caps_count,
+                                     const int64_t *proposals, size_t proposals_count, uint8_t *out, size_t out_count);
 
 /* Writes the report on a job's bytes to the front of `out`, as ASCII text; each line ends in a newline and no zero byte follows the last.
  * The other bytes of `out` keep their content. Nothing is refused: on a job that zilqodur_read_job refuses by 11 to 15, 1, 3, 4 or 7 the

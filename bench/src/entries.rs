@@ -1,6 +1,7 @@
 //! Each entry of the archive beside the same in Rust: answers and lists
 //! compared, or the time of a call taken.
 
+use crate::job::Job;
 use crate::measure::medians;
 use crate::networks::Network;
 use crate::reference::ARCS;
@@ -8,7 +9,9 @@ use crate::{best, ffi, same};
 use std::hint::black_box;
 
 #[rustfmt::skip]
-pub const ENTRIES: [&str; 7] = ["needs", "audit", "by-arc", "level", "job reader", "dead ends", "cap sums"];
+pub const ENTRIES: [&str; 9] = [
+    "needs", "audit", "by-arc", "level", "job reader", "dead ends", "cap sums", "job length", "job writer",
+];
 
 pub const LEVEL: usize = 3;
 
@@ -51,6 +54,31 @@ impl Lists {
     }
 }
 
+type Length = fn(&[u8], &[u16], &[u32], &[u64], &[i64]) -> ffi::ZilqodurJobLength;
+
+fn length_of(length: Length, job: &Job) -> ffi::ZilqodurJobLength {
+    length(
+        &job.note,
+        &job.parents,
+        &job.costs,
+        &job.caps,
+        &job.proposals,
+    )
+}
+
+type Write = fn(&[u8], &[u16], &[u32], &[u64], &[i64], &mut [u8]) -> ffi::ZilqodurJobLength;
+
+fn write(write: Write, job: &Job, out: &mut [u8]) -> ffi::ZilqodurJobLength {
+    write(
+        &job.note,
+        &job.parents,
+        &job.costs,
+        &job.caps,
+        &job.proposals,
+        out,
+    )
+}
+
 /// A call's answer with the list that it wrote.
 fn written<E: Clone + From<u8>, T>(length: usize, call: impl Fn(&mut [E]) -> T) -> (T, Vec<E>) {
     let mut out = vec![E::from(7); length];
@@ -85,10 +113,22 @@ pub fn compare(n: &Network) {
         written(p.len(), |out| ffi::list_cap_sums(p, c, m, caps, out)),
         written(p.len(), |out| same::list_cap_sums(p, c, m, caps, out)),
     );
+    compare_jobs(n);
+}
+
+fn compare_jobs(n: &Network) {
     let (mut a, mut b) = (LISTS, LISTS);
-    let read = a.fill(ffi::read_job, &n.job);
-    assert_eq!(read, b.fill(same::read_job, &n.job));
+    let read = a.fill(ffi::read_job, &n.bytes);
+    assert_eq!(read, b.fill(same::read_job, &n.bytes));
     assert!(a == b, "the job readers fill other lists");
+    assert_eq!(
+        length_of(ffi::job_length, &n.job),
+        length_of(same::job_length, &n.job)
+    );
+    assert_eq!(
+        written(n.bytes.len(), |out| write(ffi::write_job, &n.job, out)),
+        written(n.bytes.len(), |out| write(same::write_job, &n.job, out)),
+    );
 }
 
 /// Keeps the compiler from leaving out a call whose answer nobody reads.
@@ -139,8 +179,8 @@ fn level(n: &Network) -> Calls<'_> {
 fn job(n: &Network) -> Calls<'_> {
     let (mut a, mut b) = (LISTS, LISTS);
     vec![
-        Box::new(move || used(a.fill(ffi::read_job, black_box(&n.job)))),
-        Box::new(move || used(b.fill(same::read_job, black_box(&n.job)))),
+        Box::new(move || used(a.fill(ffi::read_job, black_box(&n.bytes)))),
+        Box::new(move || used(b.fill(same::read_job, black_box(&n.bytes)))),
     ]
 }
 
@@ -162,9 +202,25 @@ fn cap_sums(n: &Network) -> Calls<'_> {
     ]
 }
 
+fn job_length(n: &Network) -> Calls<'_> {
+    vec![
+        Box::new(move || used(length_of(ffi::job_length, black_box(&n.job)))),
+        Box::new(move || used(length_of(same::job_length, black_box(&n.job)))),
+    ]
+}
+
+fn job_writer(n: &Network) -> Calls<'_> {
+    let (mut a, mut b) = (vec![0; n.bytes.len()], vec![0; n.bytes.len()]);
+    vec![
+        Box::new(move || used(write(ffi::write_job, black_box(&n.job), &mut a))),
+        Box::new(move || used(write(same::write_job, black_box(&n.job), &mut b))),
+    ]
+}
+
 /// The calls of each entry, in the order of their names.
-const CALLS: [fn(&Network) -> Calls<'_>; 7] =
-    [needs, audit, by_arc, level, job, dead_ends, cap_sums];
+#[rustfmt::skip]
+const CALLS: [fn(&Network) -> Calls<'_>; 9] =
+    [needs, audit, by_arc, level, job, dead_ends, cap_sums, job_length, job_writer];
 
 /// The times of one entry on each of the networks.
 pub fn measure(entry: usize, networks: &[Network]) -> Vec<Times> {

@@ -74,7 +74,7 @@ fn measure_shape(shape: Shape, name: &'static str) -> Vec<Row> {
         network: name,
         arcs: network.parents.len(),
         users: network.users,
-        job: network.job.len(),
+        job: network.bytes.len(),
         times: times.iter().map(|entry| entry[i]).collect(),
     };
     networks.iter().enumerate().map(row).collect()

@@ -64,7 +64,9 @@ pub struct Network {
     pub caps: Vec<u64>,
     pub proposal: Vec<i64>,
     /// A job with the same parents and costs, in which every dead end is marked.
-    pub job: Vec<u8>,
+    pub job: Job,
+    /// The job's bytes.
+    pub bytes: Vec<u8>,
 }
 
 /// How far the caps are from what the by-arc split gives.
@@ -109,12 +111,16 @@ impl Network {
         let marks = shape.marks(&parents);
         let tree = Tree::new(&parents, &costs, &marks).expect("the tree is accepted");
         let shares = tree.by_arc();
+        let caps = caps(rng, kind, &shares, tree.whole());
+        let proposal = proposal(rng, &shares);
+        let job = job(rng, kind, &parents, &costs);
         Network {
             members: shares.len(),
             users: tree.users.iter().map(Vec::len).sum(),
-            caps: caps(rng, kind, &shares, tree.whole()),
-            proposal: proposal(rng, &shares),
-            job: job(rng, kind, &parents, &costs),
+            caps,
+            proposal,
+            bytes: job.write(),
+            job,
             parents,
             costs,
             marks,
@@ -122,7 +128,7 @@ impl Network {
     }
 }
 
-fn job(rng: &mut Rng, kind: Caps, parents: &[u16], costs: &[u32]) -> Vec<u8> {
+fn job(rng: &mut Rng, kind: Caps, parents: &[u16], costs: &[u32]) -> Job {
     let mut job = Job {
         note: b"a note of 24 bytes, free".to_vec(),
         parents: parents.to_vec(),
@@ -135,5 +141,5 @@ fn job(rng: &mut Rng, kind: Caps, parents: &[u16], costs: &[u32]) -> Vec<u8> {
     let shares = tree.by_arc();
     job.caps = caps(rng, kind, &shares, tree.whole());
     job.proposals = proposal(rng, &shares);
-    job.write()
+    job
 }

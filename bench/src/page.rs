@@ -89,9 +89,10 @@ pub fn print_growth(rows: &[Row], from: usize, to: usize) {
         number(from),
         number(to)
     );
-    print!("| Network | Arcs | needs | audit | dead ends | cap sums | Job bytes | job reader ");
+    print!("| Network | Arcs | needs | audit | dead ends | cap sums ");
+    print!("| Job bytes | job reader | job length | job writer ");
     println!("| Sum of users | by-arc | level | level, best |");
-    println!("|---|--:|--:|--:|--:|--:|--:|--:|--:|--:|--:|--:|");
+    println!("|---{}|", "|--:".repeat(13));
     let at = |arcs| rows.iter().filter(move |row| row.arcs == arcs);
     for (a, b) in at(from).zip(at(to)) {
         let engine = |entry: usize| b.times[entry].engine / a.times[entry].engine;
@@ -101,6 +102,7 @@ pub fn print_growth(rows: &[Row], from: usize, to: usize) {
         print!("| {:.1} | {:.1} ", engine(0), engine(1));
         print!("| {:.1} | {:.1} ", engine(5), engine(6));
         print!("| {:.1} | {:.1} ", factor(a.job, b.job), engine(4));
+        print!("| {:.1} | {:.1} ", engine(7), engine(8));
         print!("| {:.1} | {:.1} ", factor(a.users, b.users), engine(2));
         println!("| {:.1} | {:.1} |", engine(LEVEL), best(b) / best(a));
     }

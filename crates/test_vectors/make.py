@@ -56,6 +56,16 @@ from jobs import (
     read,
     value_order,
 )
+from writes import (
+    T_VALUES,
+    large_writes,
+    output_lengths,
+    random_writes,
+    small_writes,
+    write_limits,
+    write_notes,
+    write_order,
+)
 from unreadable import UNREADABLE
 
 
@@ -68,6 +78,9 @@ T_BYTES = bytes.fromhex(
     "6400000000000000 0800000000000000 6400000000000000 0400000000000000 6400000000000000 0400000000000000"
     "00000000 20000000 0400 0300 0100 54 4A"
 )
+
+# the sample job, which is T's
+SAMPLE = Path(__file__).resolve().parent.parent / "report" / "stdin"
 
 LARGE = MOST_COST + 1
 
@@ -124,6 +137,10 @@ STATED = [
     (read(job(*T_ARCS, [9, 9], [9, 9])), "refused 15 at 0; others kept"),
     (read(job(*T_ARCS, [9, 9, 2**64 - 1], [-(2**63), 9, 9])), "refused 7 at 2; others kept"),
     (read(job(*T_ARCS, [9, 9, 9], [9, -(2**63), 2**63 - 1])), "refused 7 at 1; others kept"),
+    (("write", b"", *T_VALUES, 96), f"length 96, written 96: {T_BYTES.hex()}; others kept"),
+    (("write", b"", *T_VALUES, 95), "length 96, refused 20 at 0; others kept"),
+    (("write", bytes(256), *T_VALUES, 352), "refused 19 at 0, refused 19 at 0; others kept"),
+    (("write", b"", [0, 2], [LARGE, 1], [], [], 0), "refused 4 at 1, refused 4 at 1; others kept"),
 ]
 
 PARTS = [
@@ -174,6 +191,13 @@ PARTS = [
     job_values,
     lent_lengths,
     random_jobs,
+    small_writes,
+    write_notes,
+    output_lengths,
+    write_limits,
+    large_writes,
+    write_order,
+    random_writes,
 ]
 
 MOST_INPUT = 6 << 20
@@ -186,6 +210,7 @@ def write(path, lines):
 
 
 def main(folder):
+    assert SAMPLE.read_bytes() == T_BYTES
     for case, stated in STATED:
         assert answer(case) == stated, (case, answer(case))
     cases = [case for case, _ in STATED]

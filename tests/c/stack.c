@@ -27,7 +27,7 @@ static uint16_t parents[ARCS], marks[ARCS], vertices[ARCS];
 static uint32_t costs[ARCS];
 static uint64_t caps[ARCS], out[ARCS], group[16];
 static int64_t proposal[ARCS];
-static uint8_t job[NOTE + 24 * ARCS + 16], text[ZILQODUR_REPORT_ROOM];
+static uint8_t note[NOTE], job[ZILQODUR_MOST_JOB_BYTES], text[ZILQODUR_REPORT_ROOM];
 static size_t members, job_bytes;
 
 static uint32_t check_tree(void) {
@@ -82,6 +82,17 @@ static uint32_t read_job(void) {
     return zilqodur_read_job(job, job_bytes, parents, ARCS, costs, ARCS, caps, ARCS, proposal, ARCS).refusal;
 }
 
+static uint32_t job_length(void) {
+    return zilqodur_job_length(note, NOTE, parents, ARCS, costs, ARCS, caps, members, proposal, members).refusal;
+}
+
+static uint32_t write_job(void) {
+    ZilqodurJobLength written = zilqodur_write_job(note, NOTE, parents, ARCS, costs, ARCS, caps, members, proposal,
+                                                   members, job, sizeof job);
+    job_bytes = written.length;
+    return written.refusal;
+}
+
 /* A refused job has a short report. */
 static uint32_t report(void) {
     return zilqodur_report(job, job_bytes, text).length < 100;
@@ -105,6 +116,8 @@ static const struct {
     {"zilqodur_split_level", split_level, OTHER},
     {"zilqodur_split_by_arc", split_by_arc, OTHER},
     {"zilqodur_read_job", read_job, OTHER},
+    {"zilqodur_job_length", job_length, OTHER},
+    {"zilqodur_write_job", write_job, OTHER},
     {"zilqodur_report", report, REPORT},
 };
 
@@ -154,35 +167,6 @@ static int enough(const char *name, size_t bytes) {
         return 0;
     }
     return 1;
-}
-
-static void put(uint8_t *at, uint64_t number, int width) {
-    int i;
-    for (i = 0; i < width; i++) {
-        at[i] = (uint8_t)(number >> (8 * i));
-    }
-}
-
-static void write_job(void) {
-    uint8_t *rows = job + NOTE, *member_rows = rows + 8 * ARCS, *trailer = member_rows + 16 * members;
-    size_t i;
-    memset(job, 0, sizeof job);
-    for (i = 0; i < ARCS; i++) {
-        put(rows + 8 * i, parents[i], 2);
-        put(rows + 8 * i + 4, costs[i], 4);
-    }
-    for (i = 0; i < members; i++) {
-        put(member_rows + 16 * i, caps[i], 8);
-        put(member_rows + 16 * i + 8, (uint64_t)proposal[i], 8);
-    }
-    put(trailer, NOTE, 4);
-    put(trailer + 4, NOTE + 8 * ARCS, 4);
-    put(trailer + 8, ARCS, 2);
-    put(trailer + 10, members, 2);
-    put(trailer + 12, 1, 2);
-    trailer[14] = 0x54;
-    trailer[15] = 0x4A;
-    job_bytes = (size_t)(trailer + 16 - job);
 }
 
 /* Caps that are enough, the group of all members, and a first member who pays for the whole tree: where there are

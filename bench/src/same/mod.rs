@@ -10,6 +10,7 @@ mod dead_ends;
 mod job;
 mod level;
 mod needs;
+mod writer;
 
 pub use audit::audit;
 pub use by_arc::split_by_arc;
@@ -19,6 +20,7 @@ pub use dead_ends::mark_dead_ends;
 pub use job::read_job;
 pub use level::{answer as level_answer, split_level};
 pub use needs::list_needs;
+pub use writer::{job_length, write_job};
 
 use crate::ffi::ZilqodurMembers;
 use crate::reference::{Answer, ARCS};

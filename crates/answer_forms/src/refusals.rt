@@ -53,3 +53,9 @@ pub const MARK_CHILD: u32 = 17;
 
 // No vertex is marked.
 pub const NO_MARK: u32 = 18;
+
+// The note is longer than 255 bytes.
+pub const NOTE_LENGTH: u32 = 19;
+
+// The output is shorter than the job.
+pub const JOB_SPACE: u32 = 20;

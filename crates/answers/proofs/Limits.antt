@@ -1,15 +1,22 @@
 -- Bounds that hold on every accepted tree.
-use Prim.Native.Nat.{_≤_}
+use Prim.Native.Nat.{ℕ, zero, suc, _<_, _≤_}
+use mathlib.Core.Path.{refl, sym}
+use native.Mathlib.Decide.{decLt}
 use native.Mathlib.Omega.{arith}
-use lib.ListN.{length}
+use borrow.Author.Tests.{ltb-false}
+use lib.ListN.{length, getD, List·getD-eq-default}
+use lib.IntN.{pos, natAbs}
 use Rattle.game.specs.Network.{wholeCost, memberCount}
 use Rattle.game.specs.Tree.{Tree, network, ofArc, countedCosts}
 use Rattle.game.proofs.Counted.{counted-le}
 use Rattle.basics.proofs.Sums.{sum-bound, count-le}
-use Rattle.limits.specs.Limits.{mostCost, mostArcs}
+use Rattle.limits.specs.Limits.{mostCost, mostArcs, mostShare}
 use Rattle.limits.specs.Inner.{mostWhole}
-use Rattle.answers.specs.Limits.{TreeLimits}
+use Rattle.answers.specs.Checks.{outsideShare}
+use Rattle.answers.specs.Level.{outsideCap}
+use Rattle.answers.specs.Limits.{TreeLimits, CapLimits, ProposalLimits}
 use Rattle.answers.proofs.Accepted.{Accepted, tree-accepted}
+use Rattle.answers.proofs.InRange.{list-accepted}
 
 module _ (t : Tree) (ok : Accepted t) where
   pub whole-bound : wholeCost (network t) ≤ mostWhole
@@ -25,5 +32,31 @@ module _ (t : Tree) (ok : Accepted t) where
   pub members-bound : memberCount (network t) ≤ mostArcs
   members-bound = omega (arith, count-le (network t .arcs) (network t .member), ok .few)
 
+  parent-bound : (k : ℕ) → ofArc (t .parents) k < mostArcs
+  parent-bound zero = omega arith
+  parent-bound (suc v) =
+      elim (decLt v (length (t .parents))) [
+        | yes h ↦ omega (arith, ok .rooted v, ok .few)
+        | no h ↦ omega (arith, List·getD-eq-default (t .parents) 0 {n = v} (omega arith))
+      ]
+
 pub tree-limits : TreeLimits
-tree-limits t e = let ok = tree-accepted t e in record { arcs = ok .few; members = members-bound t ok }
+tree-limits t e =
+    let ok = tree-accepted t e in
+    record {
+      arcs = ok .few;
+      members = members-bound t ok;
+      costs = sym (ok .same);
+      parent = parent-bound t ok;
+      cost = ok .limited;
+    }
+
+pub cap-limits : CapLimits
+cap-limits members caps e =
+    let ok = list-accepted outsideCap 0 members caps refl e in
+    (ok .same, λ j. ltb-false mostShare (getD caps j 0) (ok .inside j))
+
+pub proposal-limits : ProposalLimits
+proposal-limits members proposal e =
+    let ok = list-accepted outsideShare (pos 0) members proposal refl e in
+    (ok .same, λ j. ltb-false mostShare (natAbs (getD proposal j (pos 0))) (ok .inside j))

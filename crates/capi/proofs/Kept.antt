@@ -14,11 +14,13 @@ use Rattle.answers.specs.Checks.{unlike, arcCheck, markCheck, arcByArc, treeChe
 use Rattle.answers.specs.Checks.{memberListCheck, outputCheck, outsideShare}
 use Rattle.answers.specs.Level.{outsideCap}
 use Rattle.answers.proofs.DeadEnds.{plain-check}
+use Rattle.job_bytes.specs.JobBytes.{Contents, jobBytes}
 use Rattle.job_bytes.specs.Format.{arcOffset, memberOffset, version, closing0, closing1, jobArcs, jobMembers, jobCaps}
 use Rattle.job_bytes.specs.Format.{jobProposals, fillerAt}
 use Rattle.job_form.specs.Form.{fewestBytes, mostBytes, longestNote, formCheck, fillersFrom, fillersCheck}
 use Rattle.job.specs.JobCheck.{jobTree, treeMembers, countCheck, sharesCheck, valuesCheck, jobCheck}
 use Rattle.job.specs.Reader.{Lent, readCheck}
+use Rattle.job.specs.Writer.{membersOf, noteCheck, contentsCheck, spaceCheck, writeCheck}
 use Rattle.capi.specs.Structs.{encodeCheck, decodeCheck}
 
 abbrev pub Kept : Check → Type 0
@@ -132,3 +134,20 @@ read-kept bytes l =
     || (ltb (length (l .costs)) mostArcs
     || (ltb (length (l .caps)) mostArcs || ltb (length (l .proposals)) mostArcs)))
     9 0 (jobCheck bytes) (job-kept bytes)
+
+pub contents-kept : (c : Contents) → Kept (contentsCheck c)
+unfolding contentsCheck
+contents-kept c =
+    let caps = memberListCheck outsideCap (membersOf c) (c .caps) in
+    let proposals = memberListCheck outsideShare (membersOf c) (c .proposals) in
+    let note = noteCheck (length (c .note)) in
+    then-kept (plainCheck (c .parents) (c .costs)) (caps then proposals then note) (plain-kept (c .parents) (c .costs))
+    (then-kept caps (proposals then note) (list-kept outsideCap (membersOf c) (c .caps))
+    (then-kept proposals note (list-kept outsideShare (membersOf c) (c .proposals))
+    (fault-kept (ltb longestNote (length (c .note))) 18 0)))
+
+pub write-kept : (c : Contents) (out : List ℕ) → Kept (writeCheck c out)
+unfolding writeCheck
+write-kept c out =
+    then-kept (contentsCheck c) (spaceCheck (length out) (length (jobBytes c))) (contents-kept c)
+    (fault-kept (ltb (length out) (length (jobBytes c))) 19 0)

@@ -18,12 +18,15 @@ use Rattle.answers.specs.Audit.{Verdict, wrongTotal, objection, pass, auditAnsw
 use Rattle.answers.specs.Level.{LevelAnswer, outsideCap, capsCheck, shortArc, levelOr, splitOr9, levelAnswer}
 use Rattle.answers.specs.CapSums.{capSumsAnswer}
 use Rattle.answers.specs.ByArc.{byArcAnswer}
+use Rattle.job_bytes.specs.JobBytes.{Contents, jobBytes}
 use Rattle.job.specs.Reader.{Lent, readCheck, jobAnswer}
+use Rattle.job.specs.Writer.{contentsCheck, lengthAnswer, writeCheck, writeAnswer}
 use Rattle.capi.specs.Structs.{encodeMembers, decodeMembers, encodeNeeds, decodeNeeds, encodeGroup, decodeGroup}
 use Rattle.capi.specs.Structs.{encodeAudit, decodeAudit, VerdictUnlessRefused, encodeLevel, decodeLevel}
 use Rattle.capi.specs.Structs.{encodeCapSums, decodeCapSums, encodeJob, decodeJob}
+use Rattle.capi.specs.Structs.{encodeJobLength, decodeJobLength}
 use Rattle.capi.proofs.Kept.{Kept, then-kept, tree-kept, plain-kept, bits-kept, list-kept, output-kept}
-use Rattle.capi.proofs.Kept.{read-kept}
+use Rattle.capi.proofs.Kept.{read-kept, contents-kept, write-kept}
 
 -- s is the struct of an answer that can be read back: what it stands for, and that its other fields are 0
 pub stands-for : {A S : Type 0} (encode : A → S) (decode : S → A) {a found : A} {s : S} → s ≡ encode found → found ≡ a
@@ -145,3 +148,15 @@ pub job-back : (bytes : List ℕ) (l : Lent) → decodeJob (encodeJob (jobAnswer
 unfolding jobAnswer
 job-back bytes l =
     answer-back encodeJob decodeJob (λ x. refl) (λ n place. refl) (readCheck bytes l) _ (read-kept bytes l)
+
+length-back : (c : Check) (n : ℕ) → Kept c → decodeJobLength (encodeJobLength (answer c n)) ≡ answer c n
+length-back = answer-back encodeJobLength decodeJobLength (λ x. refl) (λ n place. refl)
+
+pub job-length-back : (c : Contents) → decodeJobLength (encodeJobLength (lengthAnswer c)) ≡ lengthAnswer c
+unfolding lengthAnswer
+job-length-back c = length-back (contentsCheck c) (length (jobBytes c)) (contents-kept c)
+
+pub job-written-back : (c : Contents) (out : List ℕ)
+    → decodeJobLength (encodeJobLength (writeAnswer c out)) ≡ writeAnswer c out
+unfolding writeAnswer
+job-written-back c out = length-back (writeCheck c out) (length (jobBytes c)) (write-kept c out)

@@ -20,6 +20,7 @@ use Rattle.capi.specs.declared.proposal_audit.ZilqodurAudit.{ZilqodurAud
 use Rattle.capi.specs.declared.cap_sums.ZilqodurCapSums.{ZilqodurCapSums}
 use Rattle.capi.specs.declared.level_split.ZilqodurLevel.{ZilqodurLevel}
 use Rattle.capi.specs.declared.job_read.ZilqodurJob.{ZilqodurJob}
+use Rattle.capi.specs.declared.job_write.ZilqodurJobLength.{ZilqodurJobLength}
 use Rattle.capi.specs.declared.report.ZilqodurReport.{ZilqodurReport}
 
 -- the value where the refusal's number is 0
@@ -121,6 +122,13 @@ encodeJob (refusal number place) = record { refusal = number; place = place; arc
 
 abbrev pub decodeJob : ZilqodurJob → Answer JobValue
 decodeJob s = valueOr (s .refusal) (s .place) (record { arcs = s .arcs; members = s .members; note = s .note })
+
+abbrev pub encodeJobLength : Answer ℕ → ZilqodurJobLength
+encodeJobLength (value n) = record { refusal = 0; place = 0; length = n }
+encodeJobLength (refusal number place) = record { refusal = number; place = place; length = 0 }
+
+abbrev pub decodeJobLength : ZilqodurJobLength → Answer ℕ
+decodeJobLength s = valueOr (s .refusal) (s .place) (s .length)
 
 -- the report's length, and no refusal
 abbrev pub encodeReport : List ℕ → ZilqodurReport

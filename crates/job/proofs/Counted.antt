@@ -1,5 +1,5 @@
 -- What the count of a tree's members says of the tree's check, and the shares' check by the number of members.
-use Prim.Native.Nat.{ℕ}
+use Prim.Native.Nat.{ℕ, min}
 use mathlib.Core.Path.{_≡_, refl, sym, ap, _∙_}
 use native.Mathlib.Omega.{arith}
 use borrow.Author.Tests.{eq-eqb}
@@ -11,10 +11,12 @@ use Rattle.basics.specs.Sum.{entries}
 use Rattle.game.specs.Network.{memberCount}
 use Rattle.game.specs.Tree.{Tree, network, deadEndTree}
 use Rattle.answer_forms.specs.Answer.{Check, accepted, refused, fault, answer}
-use Rattle.answer_forms.proofs.Composed.{then-nothing}
-use Rattle.answers.specs.Checks.{treeCheck, plainCheck}
+use Rattle.answer_forms.proofs.Composed.{then-nothing, then-same}
+use Rattle.limits.specs.Limits.{mostArcs}
+use Rattle.answers.specs.Checks.{treeCheck, plainCheck, outputCheck}
 use Rattle.answers.specs.Members.{memberCountAnswer}
 use Rattle.answers.specs.DeadEnds.{deadEndsAnswer}
+use Rattle.answers.proofs.Limits.{tree-limits}
 use Rattle.answers.proofs.DeadEnds.{plain-check}
 use Rattle.answer_forms.specs.declared.Refusal.{Refusal}
 use Rattle.engine.specs.Outcomes.{memberCountOf}
@@ -34,14 +36,20 @@ counted-by : (check : Check) (m n : ℕ) → memberCountOf (Members m) ≡ answe
 counted-by accepted m n e = cc
 counted-by (refused number place) m n e = absurd (let z : _≡_ {A = ℕ} 0 1 = cc in omega arith)
 
--- the dead ends marked in a list of the right length: the answer is that of the tree with these marks
-pub dead-ends-counted : (ps cs out : List ℕ) → length out ≡ length ps
+-- the dead ends marked in a list that is long enough for every accepted one: the answer is that of the tree with these
+-- marks
+pub dead-ends-counted : (ps cs out : List ℕ) → length out ≡ min (length ps) mostArcs
     → deadEndsAnswer ps cs out ≡ memberCountAnswer (deadEndTree ps cs)
 unfolding deadEndsAnswer memberCountAnswer
 dead-ends-counted ps cs out sized =
     ap (λ (c : Check). answer c (memberCount (network (deadEndTree ps cs))))
-    (then-nothing (plainCheck ps cs) (ap (λ (b : Bool). fault (not b) 8 0) (eq-eqb (length out) (length ps) sized))
-    ∙ sym (plain-check ps cs))
+    (then-same (plainCheck ps cs) fits ∙ then-nothing (plainCheck ps cs) refl ∙ sym (plain-check ps cs))
+  where
+    fits : plainCheck ps cs ≡ accepted → outputCheck (length ps) out ≡ accepted
+    fits e =
+        let few = tree-limits (deadEndTree ps cs) (plain-check ps cs ∙ e) .arcs in
+        let same : length out ≡ length ps = omega (arith, sized, few) in
+        ap (λ (b : Bool). fault (not b) 8 0) (eq-eqb (length out) (length ps) same)
 
 module _ (count : MemberCount) (t : Tree) (is : memberCountOf count ≡ memberCountAnswer t) where
   pub tree-is : treeFound count ≡ treeCheck t

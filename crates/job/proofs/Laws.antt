@@ -17,7 +17,7 @@ use Rattle.job.specs.Laws.{Usable, ReadUsable, Determined}
 use Rattle.job.proofs.Accepted.{job-accepted}
 
 -- the lists after a job was read
-filled : (bytes : List ℕ) (l : Lent) → readCheck bytes l ≡ accepted
+pub filled : (bytes : List ℕ) (l : Lent) → readCheck bytes l ≡ accepted
     → jobLists bytes l
     ≡ lent (jobParents bytes ++ drop (jobArcs bytes) (l .parents)) (jobCosts bytes ++ drop (jobArcs bytes) (l .costs))
     (jobCaps bytes ++ drop (jobMembers bytes) (l .caps)) (jobProposals bytes ++ drop (jobMembers bytes) (l .proposals))
@@ -49,7 +49,7 @@ read-usable bytes l v e =
     rw (read .1) (usable bytes l (read .0))
 
 -- a job that was read is made of what it holds
-made : (bytes : List ℕ) → Bytes bytes → jobCheck bytes ≡ accepted → jobBytes (jobContents bytes) ≡ bytes
+pub made : (bytes : List ℕ) → Bytes bytes → jobCheck bytes ≡ accepted → jobBytes (jobContents bytes) ≡ bytes
 made bytes b e = let ok = job-accepted bytes e in written-again bytes b (ok .form) (ok .fillers)
 
 pub determined : Determined

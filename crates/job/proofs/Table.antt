@@ -2,20 +2,22 @@
 use mathlib.Core.Path.{refl}
 use Rattle.basics.specs.Sum.{entries}
 use Rattle.game.specs.Tree.{hasChild, deadEnds}
-use Rattle.answers.specs.Checks.{arcByArc, treeCheck, rangeCheck}
+use Rattle.answers.specs.Checks.{arcByArc, treeCheck, plainCheck, rangeCheck}
 use Rattle.numbers.specs.Signed.{signed64, bits64}
 use Rattle.job_bytes.specs.Numbers.{littleEndian, inBytes}
-use Rattle.job_bytes.specs.JobBytes.{arcRow, memberRow, trailer}
+use Rattle.job_bytes.specs.JobBytes.{arcRow, memberRow, rows, trailer, jobBytes}
 use Rattle.job_bytes.specs.Format.{arcOffset, memberOffset, jobArcs, jobMembers, version}
 use Rattle.job_form.specs.Form.{formCheck, fillersFrom}
 use Rattle.job.specs.JobCheck.{sharesCheck, valuesCheck, jobCheck}
 use Rattle.job.specs.Reader.{readCheck, jobAnswer, jobLists}
+use Rattle.job.specs.Writer.{contentsCheck, lengthAnswer, writeCheck, writeAnswer, writeOutput}
 use Rattle.job.specs.Table.{JobTable}
 
 pub table : JobTable
 unfolding hasChild deadEnds arcByArc treeCheck rangeCheck littleEndian signed64 bits64 inBytes entries
     arcRow memberRow trailer arcOffset memberOffset
     jobArcs jobMembers version formCheck fillersFrom sharesCheck valuesCheck jobCheck readCheck jobAnswer jobLists
+    plainCheck rows jobBytes contentsCheck lengthAnswer writeCheck writeAnswer writeOutput
 table =
     record {
       T-size = refl;
@@ -40,4 +42,22 @@ table =
       many-14 = (refl, refl);
       many-1 = refl;
       none-1 = (refl, refl);
+      T-made = refl;
+      T-asked = refl;
+      T-written = refl;
+      T-exact = refl;
+      T-longer = refl;
+      negative-row = refl;
+      write-1 = (refl, refl);
+      write-2 = (refl, refl);
+      write-3 = (refl, refl);
+      write-4 = (refl, refl);
+      write-3-next = (refl, refl);
+      write-6-caps = (refl, refl);
+      write-7-caps = (refl, refl);
+      write-6-proposals = (refl, refl);
+      write-7-proposals = (refl, refl);
+      write-19 = (refl, refl);
+      write-20 = (refl, refl);
+      write-ok = refl;
     }

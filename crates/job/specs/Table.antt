@@ -1,13 +1,14 @@
--- Examples of jobs, as one statement about the reader's answers and lists.
+-- Examples of jobs, as one statement about the answers and lists of the reader and of the writer.
 use Prim.Native.Nat.{ℕ}
 use mathlib.Core.Path.{_≡_}
 use mathlib.Core.List.{List, [], _∷_, _++_}
 use lib.ListN.{length, take, replicate}
-use lib.IntN.{pos, negsuc}
+use lib.IntN.{ℤ, pos, negsuc}
 use Rattle.answer_forms.specs.Answer.{value, refusal, refused}
-use Rattle.job_bytes.specs.JobBytes.{arcRow, memberRow, trailer}
+use Rattle.job_bytes.specs.JobBytes.{Contents, contents, arcRow, memberRow, trailer}
 use Rattle.job.specs.JobCheck.{valuesCheck}
 use Rattle.job.specs.Reader.{Lent, lent, jobAnswer, jobLists}
+use Rattle.job.specs.Writer.{lengthAnswer, writeAnswer, writeOutput}
 
 -- the tree T of the specification, §10
 abbrev pub T-arcs : List ℕ
@@ -66,6 +67,36 @@ lists n = lent (replicate n 77) (replicate n 77) (replicate n 77) (replicate n (
 abbrev pub Refuses : List ℕ → Lent → ℕ → ℕ → Type 0
 Refuses bytes l number place = (jobAnswer bytes l ≡ refusal number place) × (jobLists bytes l ≡ l)
 
+-- what T-job holds, and its bytes one by one
+abbrev pub T-contents : Contents
+T-contents =
+    contents [] (0 ∷ 1 ∷ 1 ∷ 0 ∷ []) (6 ∷ 1 ∷ 5 ∷ 4 ∷ []) (100 ∷ 100 ∷ 100 ∷ []) (pos 8 ∷ pos 4 ∷ pos 4 ∷ [])
+
+abbrev pub T-bytes : List ℕ
+T-bytes =
+    (0 ∷ 0 ∷ 0 ∷ 0 ∷ 6 ∷ 0 ∷ 0 ∷ 0 ∷ 1 ∷ 0 ∷ 0 ∷ 0 ∷ 1 ∷ 0 ∷ 0 ∷ 0 ∷ [])
+    ++ (1 ∷ 0 ∷ 0 ∷ 0 ∷ 5 ∷ 0 ∷ 0 ∷ 0 ∷ 0 ∷ 0 ∷ 0 ∷ 0 ∷ 4 ∷ 0 ∷ 0 ∷ 0 ∷ [])
+    ++ (100 ∷ 0 ∷ 0 ∷ 0 ∷ 0 ∷ 0 ∷ 0 ∷ 0 ∷ 8 ∷ 0 ∷ 0 ∷ 0 ∷ 0 ∷ 0 ∷ 0 ∷ 0 ∷ [])
+    ++ (100 ∷ 0 ∷ 0 ∷ 0 ∷ 0 ∷ 0 ∷ 0 ∷ 0 ∷ 4 ∷ 0 ∷ 0 ∷ 0 ∷ 0 ∷ 0 ∷ 0 ∷ 0 ∷ [])
+    ++ (100 ∷ 0 ∷ 0 ∷ 0 ∷ 0 ∷ 0 ∷ 0 ∷ 0 ∷ 4 ∷ 0 ∷ 0 ∷ 0 ∷ 0 ∷ 0 ∷ 0 ∷ 0 ∷ [])
+    ++ (0 ∷ 0 ∷ 0 ∷ 0 ∷ 32 ∷ 0 ∷ 0 ∷ 0 ∷ 4 ∷ 0 ∷ 3 ∷ 0 ∷ 1 ∷ 0 ∷ 84 ∷ 74 ∷ [])
+
+-- an output of n bytes
+abbrev pub output : ℕ → List ℕ
+output n = replicate n 9
+
+-- a tree with one cap, one proposed share and 256 bytes of note: each is a fault where it has two members
+abbrev pub faulty : (parents costs : List ℕ) → Contents
+faulty parents costs = contents (replicate 256 7) parents costs (shareAbove ∷ []) (pos shareAbove ∷ [])
+
+-- two arcs from the source, so two members, with these caps and shares and a note of this many bytes
+abbrev pub noted : List ℕ → List ℤ → ℕ → Contents
+noted caps proposals note = contents (replicate note 7) (0 ∷ 0 ∷ []) (1 ∷ 1 ∷ []) caps proposals
+
+-- writing is refused with this number and place, and nothing is written to the output
+abbrev pub RefusesToWrite : Contents → List ℕ → ℕ → ℕ → Type 0
+RefusesToWrite c out number place = (writeAnswer c out ≡ refusal number place) × (writeOutput c out ≡ out)
+
 pub record JobTable : Type 0 where
   pub T-size : length T-job ≡ 96
   pub T-read : jobAnswer T-job (lists 1023) ≡ value (record { arcs = 4; members = 3; note = 0 })
@@ -100,3 +131,23 @@ pub record JobTable : Type 0 where
   pub many-1 : valuesCheck (many-job 0) ≡ refused 1 0
   -- 1 where there are no arcs, before 15
   pub none-1 : Refuses (memberRow 100 (pos 8) ++ trailer 0 0 0 1 1) (lists 1023) 1 0
+  -- the writer: the sample, with and without bytes behind it, and asked for its length; the bits of a negative share
+  pub T-made : T-job ≡ T-bytes
+  pub T-asked : lengthAnswer T-contents ≡ value 96
+  pub T-written : writeAnswer T-contents (output 96) ≡ value 96
+  pub T-exact : writeOutput T-contents (output 96) ≡ T-bytes
+  pub T-longer : writeOutput T-contents (output 99) ≡ T-bytes ++ (9 ∷ 9 ∷ 9 ∷ [])
+  pub negative-row : memberRow 0 (negsuc 1) ≡ replicate 8 0 ++ (254 ∷ replicate 7 255)
+  -- the order of its checks, as above: 20 stands beside each fault, and 19 where there are 256 bytes in the note
+  pub write-1 : RefusesToWrite (faulty [] (costAbove ∷ [])) (output 0) 1 0
+  pub write-2 : RefusesToWrite (faulty (1 ∷ 2 ∷ []) (costAbove ∷ [])) (output 0) 2 0
+  pub write-3 : RefusesToWrite (faulty (1 ∷ 2 ∷ []) (costAbove ∷ 1 ∷ [])) (output 0) 3 1
+  pub write-4 : RefusesToWrite (faulty (0 ∷ 2 ∷ []) (costAbove ∷ 1 ∷ [])) (output 0) 4 1
+  pub write-3-next : RefusesToWrite (faulty (0 ∷ 2 ∷ []) (1 ∷ costAbove ∷ [])) (output 0) 3 2
+  pub write-6-caps : RefusesToWrite (faulty (0 ∷ 0 ∷ []) (1 ∷ 1 ∷ [])) (output 0) 6 0
+  pub write-7-caps : RefusesToWrite (noted (1 ∷ shareAbove ∷ []) (pos shareAbove ∷ []) 256) (output 0) 7 1
+  pub write-6-proposals : RefusesToWrite (noted (1 ∷ 1 ∷ []) (pos shareAbove ∷ []) 256) (output 0) 6 0
+  pub write-7-proposals : RefusesToWrite (noted (1 ∷ 1 ∷ []) (pos 1 ∷ pos shareAbove ∷ []) 256) (output 0) 7 1
+  pub write-19 : RefusesToWrite (noted (1 ∷ 1 ∷ []) (pos 1 ∷ pos 1 ∷ []) 256) (output 0) 19 0
+  pub write-20 : RefusesToWrite (noted (1 ∷ 1 ∷ []) (pos 1 ∷ pos 1 ∷ []) 255) (output 318) 20 0
+  pub write-ok : writeAnswer (noted (1 ∷ 1 ∷ []) (pos 1 ∷ pos 1 ∷ []) 255) (output 319) ≡ value 319

@@ -1,10 +1,15 @@
-// The job reader: the public entry over a job's bytes.
+// The public entries over a job's bytes: the reader here, the writer in `writer`.
+mod members;
 mod values;
+mod writer;
 
 use answer_forms::Checked;
 use answer_forms::Refusal;
 use answer_forms::refusals;
 use limits::MOST_ARCS;
+pub use writer::JobLength;
+pub use writer::job_length;
+pub use writer::write_job;
 ghost use mathlib.Core.Path.{_≡_};
 ghost use Rattle.job.specs.JobCheck.{jobCheck};
 ghost use Rattle.job.specs.Reader.{lent, roomCheck, jobAnswer, jobLists, jobReadOf};

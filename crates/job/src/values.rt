@@ -1,4 +1,6 @@
 // The values of a job: the engine's checks on what the rows hold.
+use crate::members::dead_end_members;
+use crate::members::tree_found;
 use answer_forms::Checked;
 use answer_forms::refusals;
 use answer_forms::refuse;
@@ -17,7 +19,6 @@ ghost use Rattle.engine.specs.Outcomes.{memberCountOf};
 ghost use Rattle.job_bytes.specs.Format.{parentAt, costAt, capAt, proposalAt};
 ghost use Rattle.job_form.specs.Inner.{Layout};
 ghost use Rattle.job.specs.JobCheck.{sharesOf, valuesCheck};
-ghost use Rattle.job.specs.Inner.{treeFound};
 
 // The most arc rows, and the most member rows, that a job has room for.
 const MOST_ARC_ROWS: usize = 3100;
@@ -37,18 +38,7 @@ fn count_members(bytes: &[u8], offset: usize, arcs: usize) -> MemberCount
     let mut costs = [0u32; MOST_ARC_ROWS];
     job_bytes::read_parents(bytes, offset, arcs, &mut parents);
     job_bytes::read_costs(bytes, offset, arcs, &mut costs);
-    let mut marks = [0u16; MOST_ARC_ROWS];
-    engine::mark_dead_ends(&parents[0..arcs], &costs[0..arcs], &mut marks[0..arcs])
-}
-
-// What the tree's check found.
-fn tree_found(count: MemberCount) -> Checked
-    ensures { λ r. ⌜ checkOf r ≡ treeFound count ⌝ }
-{
-    match count {
-        MemberCount::Members(_) => Checked::Accepted,
-        MemberCount::Refused(r) => Checked::Refused(r),
-    }
+    dead_end_members(&parents[0..arcs], &costs[0..arcs])
 }
 
 // 15.

@@ -2,3 +2,6 @@ mod Reading
 pub mod Entries
 pub mod Standing
 pub mod Parts
+pub mod PartsRead
+pub mod ReadBack
+mod Putting

@@ -1,14 +1,86 @@
--- The rows and the trailer of a job: what is read from a place on stands there.
-use Prim.Native.Nat.{ℕ, zero, suc, _+_, _<_}
+-- The rows and the trailer of a job: how long they are, and that what is read from a place on stands there.
+use Prim.Native.Nat.{ℕ, zero, suc, _+_, _*_, _<_}
 use mathlib.Core.Path.{_≡_}
-use mathlib.Core.List.{List, [], _∷_}
+use mathlib.Core.List.{List, [], _∷_, _++_}
 use native.Mathlib.Nat.{add-zero}
 use native.Mathlib.Omega.{arith}
-use Rattle.numbers.specs.Signed.{signed64}
+use lib.ListN.{length, length-append}
+use lib.IntN.{ℤ}
+use Rattle.numbers.specs.Signed.{signed64, bits64}
 use Rattle.numbers.proofs.TwosComplement.{bits-of-signed}
 use Rattle.job_bytes.specs.Numbers.{byteAt, littleEndian, inBytes, Bytes}
-use Rattle.job_bytes.specs.JobBytes.{arcRow, memberRow, trailer}
+use Rattle.job_bytes.specs.JobBytes.{Contents, arcRow, memberRow, trailer, arcRows, memberRows, jobBytes}
 use Rattle.job_bytes.proofs.Standing.{Stands, stands-both, number-stands, number-small}
+use Rattle.job_bytes.proofs.Standing.{inBytes-length, rows-length}
+
+-- one number more
+pub longer : (s : List ℕ) (k width x : ℕ) → length s ≡ k → length (s ++ inBytes width x) ≡ k + width
+longer s k width x e = omega (arith, length-append s (inBytes width x), inBytes-length width x, e)
+
+pub arc-row-length : (parent filler cost : ℕ) → length (arcRow parent filler cost) ≡ 8
+unfolding arcRow
+arc-row-length parent filler cost =
+    longer (inBytes 2 parent ++ inBytes 2 filler) 4 4 cost
+    (longer (inBytes 2 parent) 2 2 filler (inBytes-length 2 parent))
+
+pub member-row-length : (cap : ℕ) (proposal : ℤ) → length (memberRow cap proposal) ≡ 16
+unfolding memberRow
+member-row-length cap proposal = longer (inBytes 8 cap) 8 8 (bits64 proposal) (inBytes-length 8 cap)
+
+-- the first two, three, four and five fields of the trailer
+abbrev pub fields₂ : ℕ → ℕ → List ℕ
+fields₂ arc-offset member-offset = inBytes 4 arc-offset ++ inBytes 4 member-offset
+
+abbrev pub fields₃ : ℕ → ℕ → ℕ → List ℕ
+fields₃ arc-offset member-offset arcs = fields₂ arc-offset member-offset ++ inBytes 2 arcs
+
+abbrev pub fields₄ : ℕ → ℕ → ℕ → ℕ → List ℕ
+fields₄ arc-offset member-offset arcs members = fields₃ arc-offset member-offset arcs ++ inBytes 2 members
+
+abbrev pub fields₅ : ℕ → ℕ → ℕ → ℕ → ℕ → List ℕ
+fields₅ arc-offset member-offset arcs members version =
+    fields₄ arc-offset member-offset arcs members ++ inBytes 2 version
+
+pub fields₂-length : (a o : ℕ) → length (fields₂ a o) ≡ 8
+fields₂-length a o = longer (inBytes 4 a) 4 4 o (inBytes-length 4 a)
+
+pub fields₃-length : (a o m : ℕ) → length (fields₃ a o m) ≡ 10
+fields₃-length a o m = longer (fields₂ a o) 8 2 m (fields₂-length a o)
+
+pub fields₄-length : (a o m n : ℕ) → length (fields₄ a o m n) ≡ 12
+fields₄-length a o m n = longer (fields₃ a o m) 10 2 n (fields₃-length a o m)
+
+pub fields₅-length : (a o m n v : ℕ) → length (fields₅ a o m n v) ≡ 14
+fields₅-length a o m n v = longer (fields₄ a o m n) 12 2 v (fields₄-length a o m n)
+
+trailer-length : (a o m n v : ℕ) → length (trailer a o m n v) ≡ 16
+unfolding trailer
+trailer-length a o m n v =
+    omega (arith, length-append {A = ℕ} (fields₅ a o m n v) (84 ∷ 74 ∷ []), fields₅-length a o m n v)
+
+-- the whole job
+pub arc-rows-length : (parents costs : List ℕ) → length (arcRows parents costs) ≡ 8 * length parents
+arc-rows-length parents costs = rows-length _ 8 (λ i. arc-row-length _ 0 _) (length parents)
+
+pub member-rows-length : (caps : List ℕ) (proposals : List ℤ) → length (memberRows caps proposals) ≡ 16 * length caps
+member-rows-length caps proposals = rows-length _ 16 (λ j. member-row-length _ _) (length caps)
+
+pub job-length : (c : Contents)
+    → length (jobBytes c) ≡ length (c .note) + 8 * length (c .parents) + 16 * length (c .caps) + 16
+unfolding jobBytes
+job-length c =
+    let note = length (c .note) in
+    let arcs = length (c .parents) in
+    let end = trailer note (note + 8 * arcs) arcs (length (c .caps)) 1 in
+    omega (
+      arith,
+      length-append (c .note) (arcRows (c .parents) (c .costs)),
+      length-append (c .note ++ arcRows (c .parents) (c .costs)) (memberRows (c .caps) (c .proposals)),
+      length-append (c .note ++ arcRows (c .parents) (c .costs) ++ memberRows (c .caps) (c .proposals)) end,
+      arc-rows-length (c .parents) (c .costs),
+      member-rows-length (c .caps) (c .proposals),
+      trailer-length note (note + 8 * arcs) arcs (length (c .caps)) 1,
+    )
 
 module _ (bytes : List ℕ) (b : Bytes bytes) (at : ℕ) where
   -- the number k bytes after the place

@@ -14,6 +14,10 @@ pub record Contents : Type 0 where
   pub caps : List ℕ
   pub proposals : List ℤ
 
+abbrev pub contents : List ℕ → List ℕ → List ℕ → List ℕ → List ℤ → Contents
+contents note parents costs caps proposals =
+    record { note = note; parents = parents; costs = costs; caps = caps; proposals = proposals }
+
 -- 8 bytes: parent 16 bits, filler 16 bits, cost 32 bits
 unfoldable pub arcRow : (parent filler cost : ℕ) → List ℕ
 arcRow parent filler cost = inBytes 2 parent ++ inBytes 2 filler ++ inBytes 4 cost
@@ -39,15 +43,18 @@ trailer arc-offset member-offset arcs members version =
     ++ (84 ∷ 74 ∷ [])
 
 -- the rows of arc 1 on, with a filler of 0, and those of member 0 on
-abbrev pub arcRows : Contents → List ℕ
-arcRows c = rows (λ i. arcRow (getD (c .parents) i 0) 0 (getD (c .costs) i 0)) (length (c .parents))
+abbrev pub arcRows : List ℕ → List ℕ → List ℕ
+arcRows parents costs = rows (λ i. arcRow (getD parents i 0) 0 (getD costs i 0)) (length parents)
 
-abbrev pub memberRows : Contents → List ℕ
-memberRows c = rows (λ j. memberRow (getD (c .caps) j 0) (getD (c .proposals) j (pos 0))) (length (c .caps))
+abbrev pub memberRows : List ℕ → List ℤ → List ℕ
+memberRows caps proposals = rows (λ j. memberRow (getD caps j 0) (getD proposals j (pos 0))) (length caps)
 
 -- the note, the arc rows, the member rows and a trailer of version 1, one after the other
 unfoldable pub jobBytes : Contents → List ℕ
 jobBytes c =
     let note = length (c .note) in
     let arcs = length (c .parents) in
-    c .note ++ arcRows c ++ memberRows c ++ trailer note (note + 8 * arcs) arcs (length (c .caps)) 1
+    c .note
+    ++ arcRows (c .parents) (c .costs)
+    ++ memberRows (c .caps) (c .proposals)
+    ++ trailer note (note + 8 * arcs) arcs (length (c .caps)) 1

@@ -1,3 +1,4 @@
 mod Rows
 pub mod FormAccepted
 pub mod WrittenAgain
+pub mod FormMade

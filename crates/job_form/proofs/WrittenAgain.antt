@@ -63,7 +63,7 @@ module _ (bytes : List ℕ) (b : Bytes bytes) (form : formCheck bytes ≡ accept
       )
       (rw (filler-zero i h) at (arc-row-stands bytes b (arcOffset bytes + 8 * i)))
 
-  arcs-stand : Stands bytes (arcOffset bytes) (8 * jobArcs bytes) (arcRows (jobContents bytes))
+  arcs-stand : Stands bytes (arcOffset bytes) (8 * jobArcs bytes) (arcRows (jobParents bytes) (jobCosts bytes))
   arcs-stand = rw arcs (stands-rows 8 _ (jobArcs bytes) arc-row)
 
   member-row : (j : ℕ) → j < jobMembers bytes
@@ -76,7 +76,8 @@ module _ (bytes : List ℕ) (b : Bytes bytes) (form : formCheck bytes ≡ accept
       )
       (member-row-stands bytes b (memberOffset bytes + 16 * j))
 
-  members-stand : Stands bytes (memberOffset bytes) (16 * jobMembers bytes) (memberRows (jobContents bytes))
+  members-stand :
+      Stands bytes (memberOffset bytes) (16 * jobMembers bytes) (memberRows (jobCaps bytes) (jobProposals bytes))
   members-stand = rw members (stands-rows 16 _ (jobMembers bytes) member-row)
 
   end-stands :

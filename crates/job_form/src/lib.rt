@@ -18,7 +18,7 @@ const FEWEST_BYTES: usize = 16;
 
 const MOST_BYTES: usize = 24_823;
 
-const LONGEST_NOTE: usize = 255;
+pub const LONGEST_NOTE: usize = 255;
 
 // 11.
 fn check_size(size: usize) -> Checked

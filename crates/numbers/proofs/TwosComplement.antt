@@ -1,11 +1,11 @@
 -- A signed number as the code reads it: its sign, what -1 less it is, and the two halves of its bits.
 use Prim.Native.Nat.{ℕ, zero, suc, _-_, _^_, _<_, _≤_}
-use mathlib.Core.Path.{_≡_, refl, ap}
+use mathlib.Core.Path.{_≡_, refl, ap, _∙_}
 use mathlib.Core.Bool.{true, false, true≢false}
 use native.Mathlib.Decide.{decLt}
 use native.Mathlib.Omega.{arith}
 use borrow.Author.Tests.{ltb-true, lt-ltb, le-ltb}
-use lib.IntN.{ℤ, pos, negsuc, _-ℤ_, subℕ}
+use lib.IntN.{ℤ, pos, negsuc, natAbs, _-ℤ_, subℕ}
 use lib.Signed.{mag, ltZ}
 use mir.Syntax.{w64}
 use mir.Val.{SFits, toZ, ofZ}
@@ -48,7 +48,7 @@ pub upper : (bits : ℕ) → 2 ^ 63 ≤ bits → signed64 bits ≡ negsuc (2 ^ 6
 unfolding signed64
 upper bits h = rw (le-ltb bits (2 ^ 63) h)
 
--- the bits of the number with these bits
+-- the bits of the number with these bits, and the number with a number's bits
 pub bits-of-signed : (bits : ℕ) → bits < 2 ^ 64 → bits64 (signed64 bits) ≡ bits
 unfolding bits64
 bits-of-signed bits h =
@@ -56,3 +56,13 @@ bits-of-signed bits h =
       | yes l ↦ rw (lower bits l)
       | no l ↦ rw (upper bits (omega arith)) (omega arith)
     ]
+
+pub signed-of-bits : (x : ℤ) → natAbs x < 2 ^ 63 → signed64 (bits64 x) ≡ x
+unfolding bits64
+signed-of-bits (pos n) h = lower n h
+signed-of-bits (negsuc n) h = upper (2 ^ 64 - 1 - n) (omega (arith, h)) ∙ ap negsuc (omega (arith, h))
+
+pub bits-small : (x : ℤ) → natAbs x < 2 ^ 63 → bits64 x < 2 ^ 64
+unfolding bits64
+bits-small (pos n) h = omega (arith, h)
+bits-small (negsuc n) h = omega (arith, h)

@@ -2,6 +2,7 @@
 // use them have no branch.
 mod signed;
 
+pub use signed::bits_of;
 pub use signed::minus;
 pub use signed::of_bits;
 pub use signed::plus;

@@ -1,7 +1,7 @@
 // A signed number taken apart, and made of its bits. -1 - x turns a sign and fits for every x.
 ghost use mathlib.Core.Path.{_≡_};
 ghost use Rattle.basics.specs.Integer.{plus as plusOf, minus as minusOf};
-ghost use Rattle.numbers.specs.Signed.{signed64};
+ghost use Rattle.numbers.specs.Signed.{signed64, bits64};
 
 // x where it is positive, else 0.
 pub fn plus(x: i64) -> u64
@@ -27,5 +27,16 @@ pub fn of_bits(bits: u64) -> i64
         bits as i64
     } else {
         -1 - ((u64::MAX - bits) as i64)
+    }
+}
+
+// The bits of a number in two's complement.
+pub fn bits_of(x: i64) -> u64
+    ensures { λ r. ⌜ r ≡ bits64 x ⌝ }
+{
+    if x < 0 {
+        u64::MAX - (-1 - x) as u64
+    } else {
+        x as u64
     }
 }

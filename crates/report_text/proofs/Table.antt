@@ -29,6 +29,7 @@ unfolding climb used groupCost sumBelow wholeCost membersTo hasChild deadEnds co
     pays groups best named
     firstLeast units arcsDown giveArc byArcDown arcByArc treeCheck rangeCheck verdict auditAnswer auditWords
     shortArc levelAnswer levelList byArcList littleEndian signed64 inBytes bits64 entries
-    arcRow memberRow trailer arcOffset memberOffset jobArcs jobMembers version formCheck fillersFrom sharesCheck valuesCheck jobCheck decimalIn decimal signedDecimal
+    arcRow memberRow trailer arcOffset memberOffset jobArcs jobMembers version formCheck fillersFrom sharesCheck
+    valuesCheck jobCheck decimalIn decimal signedDecimal
     groupText memberLines treeText splitText reportText
 table = record { T-report = refl; refused-report = refl }

@@ -1,4 +1,4 @@
-// Printing text, numbers and lists to standard output.
+// Printing text, numbers, lists and bytes to standard output.
 use crate::list::MOST;
 use crate::width;
 use libc::STDOUT_FILENO;
@@ -91,6 +91,21 @@ pub fn list_signed(entries: &[i64]) {
     let mut i = 0;
     while i < entries.len() {
         item_signed(i, entries[i]);
+        i += 1;
+    }
+}
+
+// A byte by its two hexadecimal digits.
+fn byte(b: u8) {
+    io::print_hex(STDOUT_FILENO, b as u64, 2);
+}
+
+// Bytes, after what they belong to.
+pub fn bytes(entries: &[u8]) {
+    opening(entries.len());
+    let mut i = 0;
+    while i < entries.len() {
+        byte(entries[i]);
         i += 1;
     }
 }

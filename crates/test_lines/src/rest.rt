@@ -19,6 +19,20 @@ pub fn is(entries: &[u64], from: usize, value: u64) -> bool
 }
 
 // As is.
+pub fn is8(entries: &[u8], from: usize, value: u8) -> bool
+    ensures { λ r. ⌜ RestIs (now (entries .entry)) from value r ⌝ }
+{
+    let mut i = from;
+    while i < entries.len() {
+        if entries[i] != value {
+            return false;
+        }
+        i += 1;
+    }
+    true
+}
+
+// As is.
 pub fn is_signed(entries: &[i64], from: usize, value: i64) -> bool
     ensures { λ r. ⌜ RestIs (now (entries .entry)) from value r ⌝ }
 {

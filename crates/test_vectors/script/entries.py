@@ -3,6 +3,7 @@
 A case is a tuple: the command, then its fields, each a tree, a list, a number or bytes.
 """
 from rules import (
+    MOST_ARCS,
     Refusal,
     Tree,
     WORDS,
@@ -26,6 +27,7 @@ from rules import (
 from by_arc import by_arc_split
 from job import read_job
 from level import level_split
+from writer import job_bytes, job_length, write_job
 
 UNTOUCHED = 9
 
@@ -152,20 +154,52 @@ def answer_job(lengths, data):
     fronts = [0] * len(lists)
     try:
         arcs, members, note = read_job(data, *lists)
-        fronts = [arcs, arcs, members, members]
-        shown_fronts = [shown(entries[:n]) for entries, n in zip(lists, fronts)]
-        line = ": ".join([f"read {arcs} {members} {note}", *shown_fronts])
     except Refusal as refusal:
         line = str(refusal)
+    else:
+        fronts = [arcs, arcs, members, members]
+        values = [entries[:n] for entries, n in zip(lists, fronts)]
+        assert job_bytes(data[:note], *values) == data
+        line = ": ".join([f"read {arcs} {members} {note}", *map(shown, values)])
     assert all(entries[n:] == [UNTOUCHED] * (len(entries) - n) for entries, n in zip(lists, fronts))
     return f"{line}; others kept"
+
+
+def read_back(data):
+    """The note and the lists of a job that is accepted."""
+    lists = [[UNTOUCHED] * MOST_ARCS for _ in range(4)]
+    arcs, members, note = read_job(data, *lists)
+    return [data[:note], *(entries[:n] for entries, n in zip(lists, [arcs, arcs, members, members]))]
+
+
+def answer_write(*fields):
+    """The answers of both entries, the job where it is written, and whether the other bytes are as they were."""
+    *values, length = fields
+    out = bytearray([UNTOUCHED] * length)
+    try:
+        asked = f"length {job_length(*values)}"
+    except Refusal as refusal:
+        asked = str(refusal)
+    try:
+        end = write_job(*values, out)
+    except Refusal as refusal:
+        end, line = 0, str(refusal)
+    else:
+        written = bytes(out[:end])
+        assert read_back(written) == values
+        line = f"written {end}: {shown(written)}"
+    assert out[end:] == bytearray([UNTOUCHED] * (length - end))
+    return f"{asked}, {line}; others kept"
+
+
+WITH_JOBS = {"job": answer_job, "write": answer_write}
 
 
 def answer(case):
     """The line that the program must print."""
     command, *fields = case
-    if command == "job":
-        return answer_job(*fields)
+    if command in WITH_JOBS:
+        return WITH_JOBS[command](*fields)
     beside = []
     if command in WRITING:
         beside = [[UNTOUCHED] * fields.pop()]

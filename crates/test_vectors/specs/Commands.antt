@@ -7,12 +7,13 @@ use Rattle.test_lines.specs.Fields.{First, fieldsOf}
 use Rattle.test_vectors.specs.declared.command.Command.{Command}
 use Rattle.test_vectors.specs.declared.command.Command.the-variants.{Check, Count, Members, Needs, Group, Audit}
 use Rattle.test_vectors.specs.declared.command.Command.the-variants.{Shares, Level, Caps, ByArc, DeadEnds}
-use Rattle.test_vectors.specs.declared.command.Command.the-variants.{CapSums, Job, Unknown}
+use Rattle.test_vectors.specs.declared.command.Command.the-variants.{CapSums, Job, Write, Unknown}
 
 -- the commands, in the order of their names
 abbrev pub commands : List Command
 commands =
-    Check ∷ Count ∷ Members ∷ Needs ∷ Group ∷ Audit ∷ Shares ∷ Level ∷ Caps ∷ ByArc ∷ DeadEnds ∷ CapSums ∷ Job ∷ []
+    Check ∷ Count ∷ Members ∷ Needs ∷ Group ∷ Audit ∷ Shares ∷ Level ∷ Caps ∷ ByArc ∷ DeadEnds ∷ CapSums ∷ Job
+    ∷ Write ∷ []
 
 -- how many fields a command's line has; none is right for an unknown command
 abbrev pub fieldCount : Command → ℕ
@@ -29,6 +30,7 @@ fieldCount ByArc = 5
 fieldCount DeadEnds = 4
 fieldCount CapSums = 6
 fieldCount Job = 3
+fieldCount Write = 7
 fieldCount Unknown = 0
 
 -- c is the command at the name's place among the names of a line, or unknown where the name is none of them

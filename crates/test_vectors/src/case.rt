@@ -1,9 +1,10 @@
 // One case: a command, a tree, and for some commands one field or two more; or parents, costs and a length; or a number
-// of members and a list with an entry each; or a job.
+// of members and a list with an entry each; or a job; or the note and the lists of a job and a length.
 use crate::command;
 use crate::command::Command;
 use crate::job_case;
 use crate::print;
+use crate::write_case;
 use test_lines::field;
 use test_lines::list;
 use test_lines::list::MOST;
@@ -267,6 +268,7 @@ fn answer(line: &[u8]) {
         Command::Shares => shares(line),
         Command::Caps => caps(line),
         Command::Job => job_case::run(line),
+        Command::Write => write_case::run(line),
         _ => with_tree(c, line),
     }
 }

@@ -18,16 +18,18 @@ pub enum Command {
     DeadEnds,
     CapSums,
     Job,
+    Write,
     Unknown,
 }
 
 pub fn named(name: &[u8]) -> Command
-    ensures { λ r. ⌜ Named (ascii "check count members needs group audit shares level caps byarc deadends capsums job")
+    ensures { λ r. ⌜ Named
+        (ascii "check count members needs group audit shares level caps byarc deadends capsums job write")
         (now (name .entry)) r ⌝ }
 {
     match field::find(
-        b"check count members needs group audit shares level caps byarc deadends capsums job",
-        13,
+        b"check count members needs group audit shares level caps byarc deadends capsums job write",
+        14,
         name,
     ) {
         0 => Command::Check,
@@ -43,6 +45,7 @@ pub fn named(name: &[u8]) -> Command
         10 => Command::DeadEnds,
         11 => Command::CapSums,
         12 => Command::Job,
+        13 => Command::Write,
         _ => Command::Unknown,
     }
 }
@@ -65,6 +68,7 @@ pub fn fields(c: Command) -> usize
         Command::DeadEnds => 4,
         Command::CapSums => 6,
         Command::Job => 3,
+        Command::Write => 7,
         Command::Unknown => 0,
     }
 }

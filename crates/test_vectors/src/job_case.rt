@@ -1,6 +1,8 @@
 // The cases of the job reader: the lengths of the four lists that it fills, then the job's bytes. Each entry is 9
 // before the call.
 use crate::print;
+use crate::print::front;
+use crate::print::others;
 use job::JobRead;
 use test_lines::field;
 use test_lines::hex;
@@ -10,7 +12,6 @@ use test_lines::print::labelled;
 use test_lines::print::list_signed;
 use test_lines::print::list16;
 use test_lines::print::list32;
-use test_lines::print::text;
 use test_lines::rest;
 ghost use Prim.Native.Nat.{_≤_};
 ghost use lib.ListN.{length};
@@ -19,15 +20,8 @@ ghost use Rattle.test_lines.specs.Lists.{MOST};
 // The lists that the reader fills.
 const LISTS: usize = 4;
 
-// The most bytes of a case: more than a job may have.
-const MOST_BYTES: usize = 25000;
-
-// How many entries of a list are printed, where n are to be read.
-fn front(n: usize, length: usize) -> usize
-    ensures { λ r. ⌜ r ≤ length ⌝ }
-{
-    if n < length { n } else { length }
-}
+// The most bytes of a job or an output in a case: more than a job may have.
+pub const MOST_BYTES: usize = 25000;
 
 fn fronts(
     arcs: usize,
@@ -72,14 +66,6 @@ fn kept(
         return false;
     }
     rest::is_signed(proposals, members, 9)
-}
-
-fn others(kept: bool) {
-    if kept {
-        text(b"; others kept");
-    } else {
-        text(b"; others changed");
-    }
 }
 
 fn job_read(answer: JobRead, parents: &[u16], costs: &[u32], caps: &[u64], proposals: &[i64])

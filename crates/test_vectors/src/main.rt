@@ -3,6 +3,7 @@ mod case;
 mod command;
 mod job_case;
 mod print;
+mod write_case;
 
 use libc::STDIN_FILENO;
 ghost use mathlib.Core.Path.{_≡_};

@@ -1,4 +1,4 @@
-// Printing the engine's answers.
+// Printing the answers of the entries.
 use engine::AuditFound;
 use engine::Audited;
 use engine::CapSumsFound;
@@ -8,10 +8,12 @@ use engine::LevelSplit;
 use engine::MemberCount;
 use engine::NeedsFound;
 use engine::Refusal;
+use job::JobLength;
 use test_lines::print::labelled;
 use test_lines::print::labelled_signed;
 use test_lines::print::list;
 use test_lines::print::text;
+ghost use Prim.Native.Nat.{_≤_};
 
 pub fn bad_case() {
     text(b"bad case");
@@ -94,5 +96,29 @@ pub fn level_split(s: LevelSplit) {
             refusal(Refusal { number, place });
             labelled(b" short ", shortfall);
         }
+    }
+}
+
+// A length has the label before it.
+pub fn job_length(label: &[u8], j: JobLength) {
+    match j {
+        JobLength::Length(n) => labelled(label, n as u64),
+        JobLength::Refused(r) => refusal(r),
+    }
+}
+
+// How many entries of a list are printed, where the first n are to be.
+pub fn front(n: usize, length: usize) -> usize
+    ensures { λ r. ⌜ r ≤ length ⌝ }
+{
+    if n < length { n } else { length }
+}
+
+// What is printed of the entries past the front: whether they are as before the call.
+pub fn others(kept: bool) {
+    if kept {
+        text(b"; others kept");
+    } else {
+        text(b"; others changed");
     }
 }

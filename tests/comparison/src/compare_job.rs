@@ -1,14 +1,16 @@
-//! One call on a job's bytes compared with the reference: the answer, and
-//! every lent list with the canaries around it.
+//! One call that reads or writes a job's bytes compared with the reference: the
+//! answer, and every lent list with the canaries around it.
 
 use crate::ffi::{self, *};
 use crate::job::{self, Job};
 use crate::lent::Lent;
+use crate::rare;
+use crate::reference::{Answer, Refusal, ARCS};
 use crate::report;
 use crate::tally::Tally;
 use std::sync::LazyLock;
 
-/// The four lists lent to the job reader.
+/// The four lists lent to the job reader, or handed to the job writer.
 pub struct JobLists {
     pub parents: Vec<u16>,
     pub costs: Vec<u32>,
@@ -21,6 +23,26 @@ fn front<T: Clone>(list: &mut [T], rows: &[T]) {
 }
 
 impl JobLists {
+    /// A job's rows.
+    fn of(job: &Job) -> JobLists {
+        JobLists {
+            parents: job.parents.clone(),
+            costs: job.costs.clone(),
+            caps: job.caps.clone(),
+            proposals: job.proposals.clone(),
+        }
+    }
+
+    /// Room for every job.
+    fn room() -> JobLists {
+        JobLists {
+            parents: vec![7; ARCS],
+            costs: vec![7; ARCS],
+            caps: vec![7; ARCS],
+            proposals: vec![7; ARCS],
+        }
+    }
+
     fn lengths(&self) -> [usize; 4] {
         [
             self.parents.len(),
@@ -67,18 +89,51 @@ impl LentLists {
         )
     }
 
+    fn length(&self, note: &[u8]) -> ZilqodurJobLength {
+        ffi::job_length(
+            note,
+            self.parents.list(),
+            self.costs.list(),
+            self.caps.list(),
+            self.proposals.list(),
+        )
+    }
+
+    fn write(&self, note: &[u8], out: &mut [u8]) -> ZilqodurJobLength {
+        ffi::write_job(
+            note,
+            self.parents.list(),
+            self.costs.list(),
+            self.caps.list(),
+            self.proposals.list(),
+            out,
+        )
+    }
+
     fn hold(&self, lists: &JobLists) -> bool {
         let arcs = self.parents.holds(&lists.parents) && self.costs.holds(&lists.costs);
         arcs && self.caps.holds(&lists.caps) && self.proposals.holds(&lists.proposals)
     }
 }
 
-pub fn read_job(tally: &mut Tally, bytes: &[u8], mut lists: JobLists) {
+pub fn read_job(tally: &mut Tally, bytes: &[u8], lists: JobLists) {
+    let answer = job::read(bytes, lists.lengths());
+    compare_read(tally, bytes, lists, answer.as_ref());
+}
+
+/// The job reader, which is to give this answer. A job that it accepts is
+/// written again.
+fn compare_read(
+    tally: &mut Tally,
+    bytes: &[u8],
+    mut lists: JobLists,
+    answer: Result<&Job, &Refusal>,
+) {
     let (lent, mut lent_lists) = (Lent::new(bytes), LentLists::new(&lists));
     let given = lent_lists.read(lent.list());
-    let expected = match job::read(bytes, lists.lengths()) {
+    let expected = match answer {
         Ok(job) => {
-            lists.fill(&job);
+            lists.fill(job);
             ZilqodurJob {
                 arcs: job.parents.len(),
                 members: job.caps.len(),
@@ -92,8 +147,58 @@ pub fn read_job(tally: &mut Tally, bytes: &[u8], mut lists: JobLists) {
             ..Default::default()
         },
     };
-    let lists = lent.holds(bytes) && lent_lists.hold(&lists);
+    let note = answer.map_or(true, |job| bytes.starts_with(&job.note));
+    let lists = note && lent.holds(bytes) && lent_lists.hold(&lists);
     tally.case("read_job", expected.refusal, [given, expected], lists);
+    if let Ok(job) = answer {
+        write_again(tally, bytes, job);
+    }
+}
+
+/// The job writer on what was read from these bytes.
+fn write_again(tally: &mut Tally, bytes: &[u8], job: &Job) {
+    let (lent, mut out) = (LentLists::new(&JobLists::of(job)), vec![0xFF; bytes.len()]);
+    let given = lent.write(&job.note, &mut out);
+    let expected = job_length(Ok(bytes.len()));
+    tally.case("job written again", 0, [given, expected], out == bytes);
+}
+
+fn job_length(answer: Answer<usize>) -> ZilqodurJobLength {
+    match answer {
+        Ok(length) => ZilqodurJobLength {
+            length,
+            ..Default::default()
+        },
+        Err(r) => ZilqodurJobLength {
+            refusal: r.number,
+            place: r.place,
+            length: 0,
+        },
+    }
+}
+
+/// The job writer, and the length on the same note and lists. A job that is
+/// written is read back.
+pub fn write_job(tally: &mut Tally, job: &Job, out: &[u8]) {
+    let faults = job.faults(out.len());
+    rare::note_job_faults(tally, &faults);
+    let lists = JobLists::of(job);
+    let (note, lent) = (Lent::new(&job.note), LentLists::new(&lists));
+    let kept = || note.holds(&job.note) && lent.hold(&lists);
+    let given = lent.length(note.list());
+    let expected = job_length(job::length(job, &faults));
+    tally.case("job_length", expected.refusal, [given, expected], kept());
+    let answer = job::write(job, &faults);
+    let (mut lent_out, mut written) = (Lent::new(out), out.to_vec());
+    answer.iter().for_each(|bytes| front(&mut written, bytes));
+    let given = lent.write(note.list(), lent_out.list_mut());
+    let expected = job_length(answer.map(|bytes| bytes.len()));
+    let lists = kept() && lent_out.holds(&written);
+    tally.case("write_job", expected.refusal, [given, expected], lists);
+    if expected.refusal == 0 {
+        let bytes = &lent_out.list()[..expected.length];
+        compare_read(tally, bytes, JobLists::room(), Ok(job));
+    }
 }
 
 /// What the report's buffer holds before a call: no byte of a report's text.

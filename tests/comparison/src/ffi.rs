@@ -74,6 +74,14 @@ pub struct ZilqodurJob {
     pub note: usize,
 }
 
+#[repr(C)]
+#[derive(Clone, Copy, Debug, Default, PartialEq)]
+pub struct ZilqodurJobLength {
+    pub refusal: u32,
+    pub place: usize,
+    pub length: usize,
+}
+
 pub const REPORT_ROOM: usize = 196_608;
 
 #[repr(C)]
@@ -200,6 +208,32 @@ unsafe extern "C" {
         proposals: *mut i64,
         proposals_count: usize,
     ) -> ZilqodurJob;
+    fn zilqodur_job_length(
+        note: *const u8,
+        note_count: usize,
+        parents: *const u16,
+        parents_count: usize,
+        costs: *const u32,
+        costs_count: usize,
+        caps: *const u64,
+        caps_count: usize,
+        proposals: *const i64,
+        proposals_count: usize,
+    ) -> ZilqodurJobLength;
+    fn zilqodur_write_job(
+        note: *const u8,
+        note_count: usize,
+        parents: *const u16,
+        parents_count: usize,
+        costs: *const u32,
+        costs_count: usize,
+        caps: *const u64,
+        caps_count: usize,
+        proposals: *const i64,
+        proposals_count: usize,
+        out: *mut u8,
+        out_count: usize,
+    ) -> ZilqodurJobLength;
     fn zilqodur_report(
         bytes: *const u8,
         bytes_count: usize,
@@ -410,6 +444,55 @@ pub fn read_job(
             caps.len(),
             proposals.as_mut_ptr(),
             proposals.len(),
+        )
+    }
+}
+
+pub fn job_length(
+    note: &[u8],
+    parents: &[u16],
+    costs: &[u32],
+    caps: &[u64],
+    proposals: &[i64],
+) -> ZilqodurJobLength {
+    unsafe {
+        zilqodur_job_length(
+            note.as_ptr(),
+            note.len(),
+            parents.as_ptr(),
+            parents.len(),
+            costs.as_ptr(),
+            costs.len(),
+            caps.as_ptr(),
+            caps.len(),
+            proposals.as_ptr(),
+            proposals.len(),
+        )
+    }
+}
+
+pub fn write_job(
+    note: &[u8],
+    parents: &[u16],
+    costs: &[u32],
+    caps: &[u64],
+    proposals: &[i64],
+    out: &mut [u8],
+) -> ZilqodurJobLength {
+    unsafe {
+        zilqodur_write_job(
+            note.as_ptr(),
+            note.len(),
+            parents.as_ptr(),
+            parents.len(),
+            costs.as_ptr(),
+            costs.len(),
+            caps.as_ptr(),
+            caps.len(),
+            proposals.as_ptr(),
+            proposals.len(),
+            out.as_mut_ptr(),
+            out.len(),
         )
     }
 }

@@ -1,14 +1,14 @@
 //! Pseudo-random job bytes: valid, with every kind of damage, and arbitrary.
 
 use crate::generate;
-use crate::job::{Job, LONGEST};
+use crate::job::{Job, LONGEST, NOTE};
 use crate::reference::{ARCS, COST};
 use crate::rng::Rng;
 
 /// A valid job on the tree with every dead end marked.
 pub fn valid(rng: &mut Rng, parents: &[u16], costs: &[u32]) -> Job {
     let any = rng.below(256);
-    let note = rng.pick(&[0, 0, 1, 255, any]);
+    let note = rng.pick(&[0, 1, 17, NOTE, any]);
     let mut job = Job {
         note: (0..note).map(|_| rng.next() as u8).collect(),
         parents: parents.to_vec(),
@@ -49,6 +49,19 @@ pub fn damage_rows(rng: &mut Rng, job: &mut Job) {
             generate::damage_proposal(rng, &mut job.proposals);
             job.proposals.resize(members, 0);
         }
+    }
+}
+
+/// Damages what the job writer is handed beside the tree, most often in more than one place.
+pub fn damage_lists(rng: &mut Rng, job: &mut Job) {
+    if rng.one_in(2) {
+        generate::damage_caps(rng, &mut job.caps);
+    }
+    if rng.one_in(2) {
+        generate::damage_proposal(rng, &mut job.proposals);
+    }
+    if rng.one_in(2) {
+        job.note.resize(rng.pick(&[NOTE + 1, 300]), 7);
     }
 }
 

@@ -1,8 +1,13 @@
-//! The job bytes (specification, §8): the reader, and the same rows written out.
+//! The job bytes (specification, §8): the reader, the writer, and rows of any content written out.
 
-use crate::reference::{check_caps, check_proposal, dead_ends, refuse, Answer, Tree, ARCS};
+use crate::reference::{
+    check_caps, check_proposal, dead_ends, refuse, tree_faults, Answer, Refusal, Tree, ARCS,
+};
 
 pub const LONGEST: usize = 24_823;
+
+/// The most bytes of a note.
+pub const NOTE: usize = 255;
 
 /// What a job holds: the note, the arc rows and the member rows.
 #[derive(Clone)]
@@ -39,6 +44,57 @@ impl Job {
         bytes.extend((self.caps.len() as u16).to_le_bytes());
         bytes.extend([1, 0, 0x54, 0x4A]);
         bytes
+    }
+
+    /// All faults of what the writer is handed, in the order of the refusals;
+    /// `room` is the length of its output.
+    pub fn faults(&self, room: usize) -> Vec<Fault> {
+        let (caps, proposals) = (&self.caps, &self.proposals);
+        let marks = dead_ends(&self.parents);
+        let members = marks.iter().filter(|&&mark| mark == 1).count();
+        let length = self.note.len() + 8 * self.parents.len() + 16 * members + 16;
+        let checks = [
+            ("caps", fault(caps.len() != members, 6)),
+            ("caps", check_caps(caps.len(), caps)),
+            ("proposals", fault(proposals.len() != members, 6)),
+            ("proposals", check_proposal(proposals.len(), proposals)),
+            ("note", fault(self.note.len() > NOTE, 19)),
+            ("output", fault(room < length, 20)),
+        ];
+        let found = |(list, check): (_, Answer<()>)| Some((list, check.err()?));
+        // The marks of the dead ends are at fault in no tree, so 1 to 4 are left.
+        let tree = tree_faults(&self.parents, &self.costs, &marks).into_iter();
+        let tree = tree.filter(|fault| fault.number <= 4);
+        tree.map(|fault| ("tree", fault))
+            .chain(checks.into_iter().filter_map(found))
+            .collect()
+    }
+}
+
+/// What is at fault, and the refusal.
+pub type Fault = (&'static str, Refusal);
+
+fn fault(found: bool, number: u32) -> Answer<()> {
+    if found {
+        refuse(number, 0)
+    } else {
+        Ok(())
+    }
+}
+
+/// The bytes that the writer writes, given its faults.
+pub fn write(job: &Job, faults: &[Fault]) -> Answer<Vec<u8>> {
+    match faults.first() {
+        Some(&(_, fault)) => Err(fault),
+        None => Ok(job.write()),
+    }
+}
+
+/// How many they are, whatever the length of the output.
+pub fn length(job: &Job, faults: &[Fault]) -> Answer<usize> {
+    match faults.first() {
+        Some(&(_, fault)) if fault.number != 20 => Err(fault),
+        _ => Ok(job.write().len()),
     }
 }
 
@@ -78,7 +134,7 @@ pub fn layout(bytes: &[u8]) -> Answer<Layout> {
     }
     let found = trailer(bytes);
     let meet = found.arc_rows + 8 * found.arcs == found.member_rows;
-    if found.arc_rows > 255 || !meet || found.member_rows + 16 * found.members != end {
+    if found.arc_rows > NOTE || !meet || found.member_rows + 16 * found.members != end {
         return refuse(13, 0);
     }
     Ok(found)

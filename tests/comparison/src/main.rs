@@ -19,6 +19,7 @@ mod tally;
 
 use compare::Network;
 use compare_job::JobLists;
+use job::Job;
 use reference::{Tree, ARCS};
 use rng::Rng;
 use std::sync::atomic::Ordering;
@@ -95,12 +96,20 @@ fn compare_round(tally: &mut Tally, rng: &mut Rng, arcs: usize) {
     rare::note_tree(tally, &tree);
     compare_tree(tally, rng, &network, &tree);
     compare_lists(tally, rng, &network, &tree, 3);
-    compare_jobs(tally, rng, &network);
+    let mut job = generate_job::valid(rng, &network.parents, &network.costs);
+    let length = job.write().len();
+    compare_jobs(tally, rng, &job);
+    compare_writer(tally, rng, &job, length);
     compare_definitions(tally, rng, &tree);
+    generate_job::damage_lists(rng, &mut job);
+    compare_writer(tally, rng, &job, length);
     generate::damage_tree(rng, &mut network);
     rare::note_faults(tally, &network.faults());
     compare_tree(tally, rng, &network, &tree);
     compare_lists(tally, rng, &network, &tree, 1);
+    job.fillers.resize(network.parents.len(), 0);
+    (job.parents, job.costs) = (network.parents, network.costs);
+    compare_writer(tally, rng, &job, length);
 }
 
 fn filled<T>(rng: &mut Rng, length: usize, entry: impl Fn(u64) -> T) -> Vec<T> {
@@ -152,8 +161,7 @@ fn compare_lists(tally: &mut Tally, rng: &mut Rng, network: &Network, tree: &Tre
 }
 
 /// The job reader and the report on a valid job, on damaged copies and on arbitrary bytes.
-fn compare_jobs(tally: &mut Tally, rng: &mut Rng, network: &Network) {
-    let valid = generate_job::valid(rng, &network.parents, &network.costs);
+fn compare_jobs(tally: &mut Tally, rng: &mut Rng, valid: &Job) {
     compare_job(tally, rng, &valid.write());
     let mut rows = valid.clone();
     for _ in 0..1 + rng.below(2) {
@@ -171,11 +179,17 @@ fn compare_jobs(tally: &mut Tally, rng: &mut Rng, network: &Network) {
     compare_job(tally, rng, &bytes);
 }
 
-/// The job reader and the report on stars, at the greatest length and one row or byte past it.
+/// The job writer on a job's note and lists, the output most often of the given length.
+fn compare_writer(tally: &mut Tally, rng: &mut Rng, job: &Job, length: usize) {
+    let length = generate::length(rng, length);
+    compare_job::write_job(tally, job, &filled(rng, length, |n| n as u8));
+}
+
+/// The entries that read or write a job on stars, at the greatest length and one row or byte past it.
 fn compare_longest(tally: &mut Tally) {
     let mut rng = Rng::new(tally.seed);
     for (arcs, note) in [(ARCS, 255), (ARCS, 256), (ARCS + 1, 0), (ARCS + 1, 231)] {
-        let job = job::Job {
+        let job = Job {
             note: vec![0xFF; note],
             parents: vec![0; arcs],
             fillers: vec![0; arcs],
@@ -185,6 +199,7 @@ fn compare_longest(tally: &mut Tally) {
         };
         for _ in 0..20 {
             compare_job(tally, &mut rng, &job.write());
+            compare_writer(tally, &mut rng, &job, job.write().len());
         }
     }
 }

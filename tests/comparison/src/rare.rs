@@ -1,6 +1,7 @@
 //! The cases that a run of all rounds is to meet: every refusal of every
-//! entry, faults that stand in one tree, and trees with spare plots.
+//! entry, faults that stand in one tree or one job, and trees with spare plots.
 
+use crate::job::Fault;
 use crate::reference::{Refusal, Tree};
 use crate::tally::Tally;
 
@@ -8,7 +9,7 @@ const TREE: [u32; 7] = [1, 2, 3, 4, 16, 17, 18];
 
 /// The refusals of each entry, with whether it has those of a tree too.
 #[rustfmt::skip]
-const REFUSALS: [(&str, bool, &[u32]); 14] = [
+const REFUSALS: [(&str, bool, &[u32]); 16] = [
     ("check_tree", true, &[]),
     ("check_caps", false, &[6, 7]),
     ("check_proposal", false, &[6, 7]),
@@ -22,6 +23,8 @@ const REFUSALS: [(&str, bool, &[u32]); 14] = [
     ("split_level", true, &[6, 7, 8, 9]),
     ("split_by_arc", true, &[8]),
     ("read_job", false, &[10, 11, 12, 13, 14, 1, 3, 4, 15, 7]),
+    ("job_length", false, &[1, 2, 3, 4, 6, 7, 19]),
+    ("write_job", false, &[1, 2, 3, 4, 6, 7, 19, 20]),
     ("report", false, &[]),
 ];
 
@@ -34,6 +37,14 @@ const AT_ONE_ARC: [(u32, u32); 5] = [(3, 4), (3, 16), (3, 17), (4, 16), (4, 17)]
 const APART: [(u32, u32); 16] = [
     (1, 2), (2, 3), (2, 4), (2, 16), (2, 17), (2, 18), (4, 3), (16, 3),
     (16, 4), (16, 17), (17, 3), (17, 4), (17, 16), (3, 18), (4, 18), (16, 18),
+];
+
+/// The job writer's refusals in their order, each with what is at fault. Any
+/// two neighbours are to be the first two faults of what it is handed.
+#[rustfmt::skip]
+const WRITER: [(&str, u32); 10] = [
+    ("tree", 1), ("tree", 2), ("tree", 3), ("tree", 4), ("caps", 6), ("caps", 7),
+    ("proposals", 6), ("proposals", 7), ("note", 19), ("output", 20),
 ];
 
 /// The arcs of a run that is called long.
@@ -56,6 +67,18 @@ pub fn note_faults(tally: &mut Tally, faults: &[Refusal]) {
     if let [a, b, ..] = faults {
         let at_one_arc = a.place == b.place && a.place > 0;
         tally.met.insert(meeting(a.number, b.number, at_one_arc));
+    }
+}
+
+fn job_meeting(first: (&str, u32), second: (&str, u32)) -> String {
+    format!("{first:?} before {second:?} in a job to be written")
+}
+
+/// Notes the first two faults of what the job writer is handed.
+pub fn note_job_faults(tally: &mut Tally, faults: &[Fault]) {
+    if let [(a_list, a), (b_list, b), ..] = faults {
+        let meeting = job_meeting((a_list, a.number), (b_list, b.number));
+        tally.met.insert(meeting);
     }
 }
 
@@ -103,8 +126,9 @@ pub fn unmet(tally: &Tally) -> Vec<String> {
     }
     let meetings = AT_ONE_ARC.map(|(a, b)| meeting(a, b, true)).into_iter();
     let apart = APART.map(|(a, b)| meeting(a, b, false));
+    let jobs = WRITER.windows(2).map(|pair| job_meeting(pair[0], pair[1]));
     let trees = [NO_SPARE, SPARE, ONE, BRANCH, LAST, RUN].map(String::from);
-    let rare = meetings.chain(apart).chain(trees);
+    let rare = meetings.chain(apart).chain(jobs).chain(trees);
     unmet.extend(rare.filter(|case| !tally.met.contains(case)));
     unmet
 }

@@ -3,7 +3,7 @@
 
 use crate::compare::Network;
 use crate::compare_job;
-use crate::job::Job;
+use crate::job::{self, Job};
 use crate::reference::{self, refuse, Answer, Refusal, Verdict};
 use crate::report;
 use crate::tally::Tally;
@@ -84,6 +84,12 @@ fn by_arc(tally: &mut Tally, n: &Network, expected: &[u64]) {
     n.split_by_arc(tally, &vec![77; expected.len()]);
 }
 
+fn writing(tally: &mut Tally, job: &Job, room: usize, expected: Answer<usize>) {
+    let found = job::write(job, &job.faults(room));
+    named(tally, found.map(|bytes| bytes.len()), expected);
+    compare_job::write_job(tally, job, &vec![77; room]);
+}
+
 pub fn compare(tally: &mut Tally) {
     let t = t_with(&[0, 1, 1, 1]);
     dead_ends(tally, &t, &[0, 1, 1, 1]);
@@ -113,7 +119,7 @@ pub fn compare(tally: &mut Tally) {
     spare(tally);
     limits(tally, &t);
     marks(tally);
-    report_on(tally, t);
+    sample_job(tally, t);
 }
 
 /// T with nobody at vertex 3.
@@ -160,8 +166,8 @@ fn marks(tally: &mut Tally) {
 }
 
 /// T with no note, caps 100 and the proposal 8 4 4.
-fn report_on(tally: &mut Tally, t: Network) {
-    let job = Job {
+fn sample_job(tally: &mut Tally, t: Network) {
+    let mut job = Job {
         note: Vec::new(),
         parents: t.parents,
         fillers: vec![0; 4],
@@ -180,4 +186,11 @@ fn report_on(tally: &mut Tally, t: Network) {
         Ok((96, expected.into())),
     );
     compare_job::report(tally, &bytes);
+    writing(tally, &job, 96, Ok(96));
+    writing(tally, &job, 97, Ok(96));
+    writing(tally, &job, 95, refuse(20, 0));
+    job.note = vec![77; 255];
+    writing(tally, &job, 351, Ok(351));
+    job.note.push(77);
+    writing(tally, &job, 0, refuse(19, 0));
 }

@@ -1,8 +1,8 @@
 use mathlib.Core.Path.{sym, ap}
 use borrow.Author.Needs.{needs}
 use Rattle.job.specs.Inner.{treeFound}
-use Rattle.job.proofs.values.tree_found.Statement.{statement}
-use Rattle.job.proofs.values.tree_found.Tie as tie
+use Rattle.job.proofs.members.tree_found.Statement.{statement}
+use Rattle.job.proofs.members.tree_found.Tie as tie
 
 returns-2 : tie.Need-returns-2
 returns-2 c = sym (ap treeFound (c .before .count .given .1))
