@@ -15,23 +15,33 @@ static void print_refusal(const char *name, uint32_t refusal, size_t place) {
     printf("%s refused %" PRIu32 " at %zu", name, refusal, place);
 }
 
-static void audit(const int64_t proposal[MEMBERS]) {
-    ZilqodurAudit a = zilqodur_audit(parents, ARCS, costs, ARCS, marks, ARCS, proposal, MEMBERS);
-    if (a.refusal != ZILQODUR_NO_REFUSAL) {
-        print_refusal("audit", a.refusal, a.place);
-    } else if (a.verdict == ZILQODUR_WRONG_TOTAL) {
-        printf("audit total %" PRId64, a.difference);
-    } else if (a.verdict == ZILQODUR_OBJECTION) {
-        printf("audit group %" PRIu64 " of %zu:", a.amount, a.size);
-        for (size_t j = 0; j < MEMBERS; j++) {
-            if ((a.group[j / 64] >> (j % 64)) & 1) {
-                printf(" %zu", j);
-            }
+static void print_group(const ZilqodurSearch *s) {
+    printf("audit group %" PRIu64 " of %zu:", s->amount, s->size);
+    for (size_t j = 0; j < MEMBERS; j++) {
+        if ((s->group[j / 64] >> (j % 64)) & 1) {
+            printf(" %zu", j);
         }
-    } else {
-        printf("audit pass");
     }
     printf("\n");
+}
+
+/* The two functions refuse the same lists by the same numbers. */
+static void audit(const int64_t proposal[MEMBERS]) {
+    ZilqodurTotal t = zilqodur_check_total(parents, ARCS, costs, ARCS, marks, ARCS, proposal, MEMBERS);
+    ZilqodurSearch s = zilqodur_find_group(parents, ARCS, costs, ARCS, marks, ARCS, proposal, MEMBERS);
+    if (t.refusal != ZILQODUR_NO_REFUSAL) {
+        print_refusal("audit", t.refusal, t.place);
+        printf("\n");
+    }
+    if (t.verdict == ZILQODUR_OFF) {
+        printf("audit total %" PRId64 "\n", t.difference);
+    }
+    if (s.verdict == ZILQODUR_GROUP) {
+        print_group(&s);
+    }
+    if (t.verdict == ZILQODUR_ADDS_UP && s.verdict == ZILQODUR_NO_GROUP) {
+        printf("audit pass\n");
+    }
 }
 
 static void print_shares(const char *name, const uint64_t *shares, size_t members) {

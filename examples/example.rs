@@ -9,11 +9,18 @@ struct ZilqodurMembers {
 }
 
 #[repr(C)]
-struct ZilqodurAudit {
+struct ZilqodurTotal {
     refusal: u32,
     place: usize,
     verdict: u32,
     difference: i64,
+}
+
+#[repr(C)]
+struct ZilqodurSearch {
+    refusal: u32,
+    place: usize,
+    verdict: u32,
     amount: u64,
     size: usize,
     group: [u64; 16],
@@ -38,7 +45,7 @@ unsafe extern "C" {
         out_count: usize,
     ) -> ZilqodurMembers;
 
-    fn zilqodur_audit(
+    fn zilqodur_check_total(
         parents: *const u16,
         parents_count: usize,
         costs: *const u32,
@@ -47,7 +54,18 @@ unsafe extern "C" {
         marks_count: usize,
         proposal: *const i64,
         proposal_count: usize,
-    ) -> ZilqodurAudit;
+    ) -> ZilqodurTotal;
+
+    fn zilqodur_find_group(
+        parents: *const u16,
+        parents_count: usize,
+        costs: *const u32,
+        costs_count: usize,
+        marks: *const u16,
+        marks_count: usize,
+        proposal: *const i64,
+        proposal_count: usize,
+    ) -> ZilqodurSearch;
 
     fn zilqodur_split_level(
         parents: *const u16,
@@ -74,8 +92,10 @@ unsafe extern "C" {
     ) -> ZilqodurMembers;
 }
 
-const WRONG_TOTAL: u32 = 2;
-const OBJECTION: u32 = 3;
+const ADDS_UP: u32 = 1;
+const OFF: u32 = 2;
+const NO_GROUP: u32 = 1;
+const GROUP: u32 = 2;
 
 const PARENTS: [u16; 4] = [0, 1, 1, 0];
 const COSTS: [u32; 4] = [6, 1, 5, 4];
@@ -94,10 +114,26 @@ fn mark_dead_ends(out: &mut [u16]) -> ZilqodurMembers {
     }
 }
 
-fn audit(marks: &[u16], proposal: &[i64]) -> ZilqodurAudit {
+fn check_total(marks: &[u16], proposal: &[i64]) -> ZilqodurTotal {
     // Safety: each pointer and count are those of one slice, and nothing is written.
     unsafe {
-        zilqodur_audit(
+        zilqodur_check_total(
+            PARENTS.as_ptr(),
+            PARENTS.len(),
+            COSTS.as_ptr(),
+            COSTS.len(),
+            marks.as_ptr(),
+            marks.len(),
+            proposal.as_ptr(),
+            proposal.len(),
+        )
+    }
+}
+
+fn find_group(marks: &[u16], proposal: &[i64]) -> ZilqodurSearch {
+    // Safety: each pointer and count are those of one slice, and nothing is written.
+    unsafe {
+        zilqodur_find_group(
             PARENTS.as_ptr(),
             PARENTS.len(),
             COSTS.as_ptr(),
@@ -148,16 +184,26 @@ fn joined(numbers: &[u64]) -> String {
     numbers.iter().map(|n| format!(" {n}")).collect()
 }
 
+fn print_group(s: &ZilqodurSearch) {
+    let group: Vec<u64> = (0..1024).filter(|j| s.group[(j / 64) as usize] >> (j % 64) & 1 == 1).collect();
+    println!("audit group {} of {}:{}", s.amount, s.size, joined(&group));
+}
+
 fn print_audit(marks: &[u16], proposal: &[i64]) {
-    let a = audit(marks, proposal);
-    if a.refusal != 0 {
-        println!("audit refused {} at {}", a.refusal, a.place);
-    } else if a.verdict == WRONG_TOTAL {
-        println!("audit total {}", a.difference);
-    } else if a.verdict == OBJECTION {
-        let group: Vec<u64> = (0..1024).filter(|j| a.group[(j / 64) as usize] >> (j % 64) & 1 == 1).collect();
-        println!("audit group {} of {}:{}", a.amount, a.size, joined(&group));
-    } else {
+    let t = check_total(marks, proposal);
+    let s = find_group(marks, proposal);
+    // The two functions refuse the same lists by the same numbers.
+    assert_eq!((t.refusal, t.place), (s.refusal, s.place));
+    if t.refusal != 0 {
+        println!("audit refused {} at {}", t.refusal, t.place);
+    }
+    if t.verdict == OFF {
+        println!("audit total {}", t.difference);
+    }
+    if s.verdict == GROUP {
+        print_group(&s);
+    }
+    if t.verdict == ADDS_UP && s.verdict == NO_GROUP {
         println!("audit pass");
     }
 }

@@ -121,22 +121,33 @@ typedef struct ZilqodurGroup {
     uint64_t cost; /* the sum of the costs of all arcs that at least one of them uses */
 } ZilqodurGroup;
 
-enum ZilqodurVerdict {
-    ZILQODUR_NO_VERDICT = 0,  /* the audit is refused */
-    ZILQODUR_PASS = 1,        /* the total is right and no group pays more than its cost */
-    ZILQODUR_WRONG_TOTAL = 2, /* the shares do not add up to the whole cost */
-    ZILQODUR_OBJECTION = 3    /* the total is right and some group pays more than its cost */
+enum ZilqodurTotalVerdict {
+    ZILQODUR_NO_TOTAL = 0, /* the check is refused */
+    ZILQODUR_ADDS_UP = 1,  /* the shares add up to the whole cost */
+    ZILQODUR_OFF = 2       /* they do not */
 };
 
-typedef struct ZilqodurAudit {
+typedef struct ZilqodurTotal {
     uint32_t refusal;
     size_t place;
-    uint32_t verdict;   /* one of enum ZilqodurVerdict: 0 exactly where `refusal` is not 0 */
-    int64_t difference; /* wrong total: sum of the shares less the whole cost */
-    uint64_t amount;    /* objection: the greatest overpayment of a group */
-    size_t size;        /* objection: the number of members in `group` */
-    uint64_t group[16]; /* objection: of the groups that overpay the amount, the one with fewest members */
-} ZilqodurAudit;
+    uint32_t verdict;   /* one of enum ZilqodurTotalVerdict: 0 exactly where `refusal` is not 0 */
+    int64_t difference; /* sum of the shares less the whole cost; 0 where they add up, and in a refusal */
+} ZilqodurTotal;
+
+enum ZilqodurSearchVerdict {
+    ZILQODUR_NO_SEARCH = 0, /* the search is refused */
+    ZILQODUR_NO_GROUP = 1,  /* no group pays more than its cost */
+    ZILQODUR_GROUP = 2      /* some group pays more than its cost */
+};
+
+typedef struct ZilqodurSearch {
+    uint32_t refusal;
+    size_t place;
+    uint32_t verdict;   /* one of enum ZilqodurSearchVerdict: 0 exactly where `refusal` is not 0 */
+    uint64_t amount;    /* where a group is found: the greatest overpayment of a group */
+    size_t size;        /* the number of members in `group` */
+    uint64_t group[16]; /* of the groups that overpay the amount, the one with fewest members; all 0 where none is found */
+} ZilqodurSearch;
 
 typedef struct ZilqodurCapSums {
     uint32_t refusal;
@@ -203,10 +214,16 @@ ZilqodurNeeds zilqodur_list_needs(const uint16_t *parents, size_t parents_count,
 ZilqodurGroup zilqodur_group_cost(const uint16_t *parents, size_t parents_count, const uint32_t *costs, size_t costs_count,
                                   const uint16_t *marks, size_t marks_count, const uint64_t group[16]);
 
-/* Whether the proposal adds up to the whole cost and, if so, whether some group pays more than it costs. `proposal` has one share a
- * member, each from -2,000,000,000,000 to 2,000,000,000,000. Refusals: the tree's, 6, 7. */
-ZilqodurAudit zilqodur_audit(const uint16_t *parents, size_t parents_count, const uint32_t *costs, size_t costs_count,
-                             const uint16_t *marks, size_t marks_count, const int64_t *proposal, size_t proposal_count);
+/* Whether the shares of the proposal add up to the whole cost, and the difference. `proposal` has one share a member, each from
+ * -2,000,000,000,000 to 2,000,000,000,000. Refusals: the tree's, 6, 7. */
+ZilqodurTotal zilqodur_check_total(const uint16_t *parents, size_t parents_count, const uint32_t *costs, size_t costs_count,
+                                   const uint16_t *marks, size_t marks_count, const int64_t *proposal, size_t proposal_count);
+
+/* Whether some group pays more than its cost, and the group. A group's overpayment is what its members pay less its cost. The search runs
+ * whatever the total is, and may name all members together. A proposal passes where zilqodur_check_total says that it adds up and this
+ * function says that there is no group. The lists are those of zilqodur_check_total. Refusals: the tree's, 6, 7. */
+ZilqodurSearch zilqodur_find_group(const uint16_t *parents, size_t parents_count, const uint32_t *costs, size_t costs_count,
+                                   const uint16_t *marks, size_t marks_count, const int64_t *proposal, size_t proposal_count);
 
 /* Writes for each arc what the caps of its users add up to: at a member's arc its cap, elsewhere the sums of its child arcs added up, so 0
  * where it has no user. `caps` has one cap a member, each from 0 to 2,000,000,000,000; `out` has one entry an arc, entry 0 for arc 1.
@@ -260,7 +277,9 @@ ZilqodurJobLength zilqodur_write_job(const uint8_t *note, size_t note_count, con
  * The other bytes of `out` keep their content. Nothing is refused: on a job that zilqodur_read_job refuses by 11 to 15, 1, 3, 4 or 7 the
  * report is the line `refused N at PLACE`. Otherwise its lines are
  *     cost C members N                       the whole cost, the number of members
- *     audit group A of S: J J J              the audit's amount, size and group; or `audit total D`, the difference; or `audit pass`
+ *     audit total D                          the difference; only where the shares do not add up
+ *     audit group A of S: J J J              amount, size and members of the group; only where one is found
+ *     audit pass                             only where the shares add up and no group is found
  *     level ok                               or `level refused 9 at ARC short D`
  *     J at V: proposed P by-arc B level L    one line a member: number, vertex, three shares; L is `-` where the level split is refused */
 ZilqodurReport zilqodur_report(const uint8_t *bytes, size_t bytes_count, uint8_t out[ZILQODUR_REPORT_ROOM]);

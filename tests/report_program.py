@@ -18,17 +18,27 @@ from job import read_job
 from level import level_split
 from make import job as packed
 from networks import T, U, W, broom, chain, comb, random_caps, random_proposal, random_tree, star
-from rules import MOST_ARCS, MOST_CAP, Refusal, all_marked, best_group, member_count, member_vertices, whole_cost
+from rules import (
+    MOST_ARCS,
+    MOST_CAP,
+    MOST_SHARE,
+    Refusal,
+    all_marked,
+    best_group,
+    member_count,
+    member_vertices,
+    whole_cost,
+)
 
 
-def audit_line(tree, proposal):
+def audit_lines(tree, proposal):
+    """A line where the total is off, then one where a group overpays; else a pass."""
     difference = sum(proposal) - whole_cost(tree)
-    if difference:
-        return f"audit total {difference}"
     over, group = best_group(tree, proposal)
-    if over == 0:
-        return "audit pass"
-    return f"audit group {over} of {len(group)}: " + " ".join(map(str, group))
+    found = [f"audit total {difference}"] if difference else []
+    if over:
+        found.append(f"audit group {over} of {len(group)}: " + " ".join(map(str, group)))
+    return found or ["audit pass"]
 
 
 def lines(data):
@@ -40,7 +50,7 @@ def lines(data):
         return [str(refusal)]
     tree = all_marked(lists[0][:arcs], lists[1][:arcs])
     caps, proposal = lists[2][:count], lists[3][:count]
-    found = [f"cost {whole_cost(tree)} members {count}", audit_line(tree, proposal)]
+    found = [f"cost {whole_cost(tree)} members {count}", *audit_lines(tree, proposal)]
     try:
         level = level_split(tree, caps)
         found.append("level ok")
@@ -62,6 +72,8 @@ def jobs():
     yield job_of(T, [3, 8, 100], [8, 4, 5], b"note")
     yield job_of(T, [100] * 3, [7, 5, 4])
     yield job_of(T, [100] * 3, [-1, 13, 4])
+    yield job_of(T, [100] * 3, [9, 9, 9])
+    yield job_of(T, [100] * 3, [-1, -1, -1])
     yield job_of(U, [3, 100], [0, -7])
     yield job_of(W, [100] * 3, [7, 7, 6])
     for size in (0, 15, 16, 24_823, 24_824, 30_000):
@@ -69,11 +81,14 @@ def jobs():
     for shape in (chain, star, broom, comb):
         tree = all_marked(shape(1023), [10**9] * 1023)
         count = member_count(tree)
-        yield job_of(tree, [MOST_CAP] * count, [-(2 * 10**12)] * count, bytes(255))
+        for share in (-MOST_SHARE, MOST_SHARE):
+            yield job_of(tree, [MOST_CAP] * count, [share] * count, bytes(255))
     dice = random.Random(20261115)
     for arcs in [dice.randint(1, 12) for _ in range(60)]:
         tree = random_tree(dice, arcs)
-        data = job_of(tree, random_caps(dice, tree), random_proposal(dice, tree), bytes(dice.randrange(4)))
+        more = dice.randint(-1, 1)
+        proposal = [share + more for share in random_proposal(dice, tree)]
+        data = job_of(tree, random_caps(dice, tree), proposal, bytes(dice.randrange(4)))
         yield data
         at = dice.randrange(len(data))
         yield data[:at] + bytes([dice.randrange(256)]) + data[at + 1 :]

@@ -9,11 +9,12 @@ use crate::{best, ffi, same};
 use std::hint::black_box;
 
 #[rustfmt::skip]
-pub const ENTRIES: [&str; 9] = [
-    "needs", "audit", "by-arc", "level", "job reader", "dead ends", "cap sums", "job length", "job writer",
+pub const ENTRIES: [&str; 10] = [
+    "needs", "total", "group search", "by-arc", "level", "job reader", "dead ends", "cap sums",
+    "job length", "job writer",
 ];
 
-pub const LEVEL: usize = 3;
+pub const LEVEL: usize = 4;
 
 /// Microseconds of a call.
 #[derive(Clone, Copy)]
@@ -92,10 +93,7 @@ pub fn compare(n: &Network) {
         written(p.len(), |out| ffi::list_needs(p, c, m, out)),
         written(p.len(), |out| same::list_needs(p, c, m, out)),
     );
-    assert_eq!(
-        ffi::audit(p, c, m, &n.proposal),
-        same::audit(p, c, m, &n.proposal)
-    );
+    compare_proposals(n);
     assert_eq!(
         written(n.members, |out| ffi::split_by_arc(p, c, m, out)),
         written(n.members, |out| same::split_by_arc(p, c, m, out)),
@@ -114,6 +112,19 @@ pub fn compare(n: &Network) {
         written(p.len(), |out| same::list_cap_sums(p, c, m, caps, out)),
     );
     compare_jobs(n);
+}
+
+/// The network's proposal, which adds up, and with a unit less and more from each member.
+fn compare_proposals(n: &Network) {
+    let (p, c, m) = (&n.parents[..], &n.costs[..], &n.marks[..]);
+    for more in [-1, 0, 1] {
+        let x: Vec<i64> = n.proposal.iter().map(|share| share + more).collect();
+        assert_eq!(
+            ffi::check_total(p, c, m, &x),
+            same::check_total(p, c, m, &x)
+        );
+        assert_eq!(ffi::find_group(p, c, m, &x), same::find_group(p, c, m, &x));
+    }
 }
 
 fn compare_jobs(n: &Network) {
@@ -149,11 +160,19 @@ fn needs(n: &Network) -> Calls<'_> {
     ]
 }
 
-fn audit(n: &Network) -> Calls<'_> {
+fn total(n: &Network) -> Calls<'_> {
     let (p, c, m, x) = (&n.parents[..], &n.costs[..], &n.marks[..], &n.proposal[..]);
     vec![
-        Box::new(move || used(ffi::audit(black_box(p), c, m, x))),
-        Box::new(move || used(same::audit(black_box(p), c, m, x))),
+        Box::new(move || used(ffi::check_total(black_box(p), c, m, x))),
+        Box::new(move || used(same::check_total(black_box(p), c, m, x))),
+    ]
+}
+
+fn search(n: &Network) -> Calls<'_> {
+    let (p, c, m, x) = (&n.parents[..], &n.costs[..], &n.marks[..], &n.proposal[..]);
+    vec![
+        Box::new(move || used(ffi::find_group(black_box(p), c, m, x))),
+        Box::new(move || used(same::find_group(black_box(p), c, m, x))),
     ]
 }
 
@@ -219,8 +238,8 @@ fn job_writer(n: &Network) -> Calls<'_> {
 
 /// The calls of each entry, in the order of their names.
 #[rustfmt::skip]
-const CALLS: [fn(&Network) -> Calls<'_>; 9] =
-    [needs, audit, by_arc, level, job, dead_ends, cap_sums, job_length, job_writer];
+const CALLS: [fn(&Network) -> Calls<'_>; 10] =
+    [needs, total, search, by_arc, level, job, dead_ends, cap_sums, job_length, job_writer];
 
 /// The times of one entry on each of the networks.
 pub fn measure(entry: usize, networks: &[Network]) -> Vec<Times> {

@@ -89,21 +89,21 @@ pub fn print_growth(rows: &[Row], from: usize, to: usize) {
         number(from),
         number(to)
     );
-    print!("| Network | Arcs | needs | audit | dead ends | cap sums ");
+    print!("| Network | Arcs | needs | total | group search | dead ends | cap sums ");
     print!("| Job bytes | job reader | job length | job writer ");
     println!("| Sum of users | by-arc | level | level, best |");
-    println!("|---{}|", "|--:".repeat(13));
+    println!("|---{}|", "|--:".repeat(14));
     let at = |arcs| rows.iter().filter(move |row| row.arcs == arcs);
     for (a, b) in at(from).zip(at(to)) {
         let engine = |entry: usize| b.times[entry].engine / a.times[entry].engine;
         let best = |row: &Row| row.times[LEVEL].best.unwrap();
         let factor = |a: usize, b: usize| b as f64 / a as f64;
         print!("| {} | {:.1} ", a.network, factor(from, to));
-        print!("| {:.1} | {:.1} ", engine(0), engine(1));
-        print!("| {:.1} | {:.1} ", engine(5), engine(6));
-        print!("| {:.1} | {:.1} ", factor(a.job, b.job), engine(4));
-        print!("| {:.1} | {:.1} ", engine(7), engine(8));
-        print!("| {:.1} | {:.1} ", factor(a.users, b.users), engine(2));
+        print!("| {:.1} | {:.1} | {:.1} ", engine(0), engine(1), engine(2));
+        print!("| {:.1} | {:.1} ", engine(6), engine(7));
+        print!("| {:.1} | {:.1} ", factor(a.job, b.job), engine(5));
+        print!("| {:.1} | {:.1} ", engine(8), engine(9));
+        print!("| {:.1} | {:.1} ", factor(a.users, b.users), engine(3));
         println!("| {:.1} | {:.1} |", engine(LEVEL), best(b) / best(a));
     }
 }

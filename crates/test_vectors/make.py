@@ -13,17 +13,18 @@ sys.path.insert(0, str(Path(__file__).resolve().parent / "script"))
 from rules import MOST_COST, WORDS, Tree, all_marked, words_of
 from entries import answer, question
 from networks import T, T_SPARE, U, W, chain
-from trees import group_bits, large_trees, limits, random_trees, refusal_order, small_networks
-from audits import (
-    deep_audits,
-    full_audits,
-    random_audits,
+from trees import group_bits, large_trees, limits, proposed, random_trees, refusal_order, small_networks
+from proposals import (
+    deep_proposals,
+    full_proposals,
+    random_proposals,
     share_limits,
     share_refusals,
-    small_audits,
+    small_proposals,
     ties,
     traps,
 )
+from totals import everyone_named, random_totals, total_limits, wrong_totals
 from levels import (
     cap_limits,
     cap_refusals,
@@ -73,6 +74,12 @@ def beside_words(line, first=0):
     return f"{line}: {first}" + ",0" * (WORDS - 1)
 
 
+def judged(tree, proposal, difference, found, first=0):
+    """The cases of a proposal, with their answers."""
+    total, search = proposed(tree, proposal)
+    return [(total, f"total {difference}"), (search, beside_words(found, first))]
+
+
 T_BYTES = bytes.fromhex(
     "0000000006000000 0100000001000000 0100000005000000 0000000004000000"
     "6400000000000000 0800000000000000 6400000000000000 0400000000000000 6400000000000000 0400000000000000"
@@ -99,12 +106,14 @@ STATED = [
     (("check", all_marked(chain(1024), [1] * 1024)), "refused 1 at 0"),
     (("group", T, words_of([2])), "size 1 cost 4"),
     (("group", T, words_of([3])), "refused 5 at 3"),
-    (("audit", T, [7, 5, 4]), beside_words("pass")),
-    (("audit", T, [8, 4, 4]), beside_words("group 1 of 1", 1)),
-    (("audit", T, [8, 4, 5]), beside_words("total 1")),
-    (("audit", T, [-1, 13, 4]), beside_words("group 2 of 1", 2)),
-    (("audit", T, [6, 5, 5]), beside_words("group 1 of 1", 4)),
-    (("audit", W, [7, 7, 6]), beside_words("group 2 of 2", 3)),
+    *judged(T, [7, 5, 4], 0, "no group"),
+    *judged(T, [8, 4, 4], 0, "group 1 of 1", 1),
+    *judged(T, [8, 4, 5], 1, "group 2 of 2", 5),
+    *judged(T, [-1, 13, 4], 0, "group 2 of 1", 2),
+    *judged(T, [6, 5, 5], 0, "group 1 of 1", 4),
+    *judged(W, [7, 7, 6], 0, "group 2 of 2", 3),
+    *judged(T, [9, 9, 9], 11, "group 11 of 3", 7),
+    *judged(T, [-1, -1, -1], -19, "no group"),
     (("level", T, [100, 100, 100], 3), "split 3: 6,6,4"),
     (("level", T, [3, 9, 4], 3), "split 3: 3,9,4"),
     (("level", T, [3, 8, 100], 3), "refused 9 at 1 short 1: 9,9,9"),
@@ -150,14 +159,18 @@ PARTS = [
     refusal_order,
     random_trees,
     large_trees,
-    small_audits,
+    small_proposals,
     ties,
     traps,
     share_limits,
     share_refusals,
-    full_audits,
-    deep_audits,
-    random_audits,
+    full_proposals,
+    deep_proposals,
+    random_proposals,
+    wrong_totals,
+    everyone_named,
+    total_limits,
+    random_totals,
     small_levels,
     level_ties,
     several_short,
@@ -219,10 +232,13 @@ def main(folder):
     for case in cases:
         if isinstance(case[1], Tree):
             check_pruned(case)
-    size = write(folder / "stdin", [question(case) for case in cases] + UNREADABLE)
-    write(folder / "stdout", [answer(case) for case in cases] + ["bad case"] * len(UNREADABLE))
+    # a line that several parts have stands once
+    answers = {question(case): answer(case) for case in cases}
+    answers.update(dict.fromkeys(UNREADABLE, "bad case"))
+    size = write(folder / "stdin", answers)
+    write(folder / "stdout", answers.values())
     assert size <= MOST_INPUT, size
-    print(f"{len(cases) + len(UNREADABLE)} cases, {size} bytes")
+    print(f"{len(answers)} cases, {size} bytes")
 
 
 if __name__ == "__main__":

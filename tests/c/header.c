@@ -60,14 +60,31 @@ static int is_group(ZilqodurGroup found, uint32_t refusal, size_t place, size_t 
     return IS(found.refusal, refusal) && IS(found.place, place) && IS(found.size, size) && IS(found.cost, cost);
 }
 
-/* The group has no other bits than those of one word. */
-static int is_audit(ZilqodurAudit found, uint32_t refusal, size_t place, uint32_t verdict, int64_t difference, uint64_t amount, size_t size,
-                    size_t word, uint64_t bits) {
-    uint64_t group[16] = {0};
+static int is_total(ZilqodurTotal found, uint32_t refusal, size_t place, uint32_t verdict, int64_t difference) {
+    return IS(found.refusal, refusal) && IS(found.place, place) && IS(found.verdict, verdict) && IS(found.difference, difference);
+}
+
+/* A group with these bits in one word, and no others. */
+static const uint64_t *bits_in(size_t word, uint64_t bits) {
+    static uint64_t group[16];
+    memset(group, 0, sizeof group);
     group[word] = bits;
-    return IS(found.refusal, refusal) && IS(found.place, place) && IS(found.verdict, verdict) && IS(found.difference, difference) &&
-           IS(found.amount, amount) && IS(found.size, size) && sizeof found.group == sizeof group &&
-           memcmp(found.group, group, sizeof group) == 0;
+    return group;
+}
+
+static int is_search(ZilqodurSearch found, uint32_t refusal, size_t place, uint32_t verdict, uint64_t amount, size_t size,
+                     const uint64_t *group) {
+    return IS(found.refusal, refusal) && IS(found.place, place) && IS(found.verdict, verdict) && IS(found.amount, amount) &&
+           IS(found.size, size) && sizeof found.group == 16 * sizeof group[0] && memcmp(found.group, group, sizeof found.group) == 0;
+}
+
+static int is_no_group(ZilqodurSearch found) {
+    return is_search(found, ZILQODUR_NO_REFUSAL, 0, ZILQODUR_NO_GROUP, 0, 0, bits_in(0, 0));
+}
+
+/* The group stands in the first word. */
+static int is_found(ZilqodurSearch found, uint64_t amount, size_t size, uint64_t bits) {
+    return is_search(found, ZILQODUR_NO_REFUSAL, 0, ZILQODUR_GROUP, amount, size, bits_in(0, bits));
 }
 
 static int is_cap_sums(ZilqodurCapSums found, uint32_t refusal, size_t place, uint64_t total) {
@@ -96,8 +113,8 @@ static int is_report(ZilqodurReport found, uint32_t refusal, size_t place, size_
 /* No struct is larger than the archive's. */
 static void sizes(void) {
     EXPECT(sizeof(ZilqodurCheck) == 16 && sizeof(ZilqodurMembers) == 24 && sizeof(ZilqodurNeeds) == 32 && sizeof(ZilqodurGroup) == 32);
-    EXPECT(sizeof(ZilqodurAudit) == 176 && sizeof(ZilqodurCapSums) == 24 && sizeof(ZilqodurLevel) == 32 && sizeof(ZilqodurJob) == 40);
-    EXPECT(sizeof(ZilqodurJobLength) == 24 && sizeof(ZilqodurReport) == 24);
+    EXPECT(sizeof(ZilqodurTotal) == 32 && sizeof(ZilqodurSearch) == 168 && sizeof(ZilqodurCapSums) == 24 && sizeof(ZilqodurLevel) == 32);
+    EXPECT(sizeof(ZilqodurJob) == 40 && sizeof(ZilqodurJobLength) == 24 && sizeof(ZilqodurReport) == 24);
 }
 
 static int are(const uint64_t *list, uint64_t a, uint64_t b, uint64_t c) {
@@ -182,14 +199,38 @@ static void groups(void) {
     EXPECT(is_group(zilqodur_group_cost(T(no_marks), group), ZILQODUR_NO_MARK, 0, 0, 0));
 }
 
-static void audits(void) {
-    static const int64_t fair[MEMBERS] = {7, 5, 4}, unfair[MEMBERS] = {3, 4, 9}, low[MEMBERS] = {7, 5, -30000000000};
-    static const int64_t outside[MEMBERS] = {7, 2000000000001, 4};
-    EXPECT(is_audit(zilqodur_audit(T(marks), outside, MEMBERS), ZILQODUR_LIST_RANGE, 1, ZILQODUR_NO_VERDICT, 0, 0, 0, 0, 0));
-    EXPECT(is_audit(zilqodur_audit(T(no_marks), outside, MEMBERS), ZILQODUR_NO_MARK, 0, ZILQODUR_NO_VERDICT, 0, 0, 0, 0, 0));
-    EXPECT(is_audit(zilqodur_audit(T(marks), fair, MEMBERS), 0, 0, ZILQODUR_PASS, 0, 0, 0, 0, 0));
-    EXPECT(is_audit(zilqodur_audit(T(marks), low, MEMBERS), 0, 0, ZILQODUR_WRONG_TOTAL, -30000000004, 0, 0, 0, 0));
-    EXPECT(is_audit(zilqodur_audit(T(marks), unfair, MEMBERS), 0, 0, ZILQODUR_OBJECTION, 0, 5, 1, 0, 4));
+/* Both functions refuse the tree and the proposal. */
+#define EXPECT_NO_VERDICT(refusal, place, ...)                                                  \
+    EXPECT(is_total(zilqodur_check_total(__VA_ARGS__), refusal, place, ZILQODUR_NO_TOTAL, 0) && \
+           is_search(zilqodur_find_group(__VA_ARGS__), refusal, place, ZILQODUR_NO_SEARCH, 0, 0, bits_in(0, 0)))
+
+/* Each kind of refusal, on lists that also have the fault that is next in the order. */
+static void refused_proposals(void) {
+    static const int64_t outside[MEMBERS] = {7, 2000000000001, -2000000000001};
+    EXPECT_NO_VERDICT(ZILQODUR_PARENT, 2, wrong_parents, ARCS, wrong_costs, ARCS, marks, ARCS, outside, 2);
+    EXPECT_NO_VERDICT(ZILQODUR_NO_MARK, 0, T(no_marks), outside, 2);
+    EXPECT_NO_VERDICT(ZILQODUR_LIST_LENGTH, 0, T(marks), outside, 2);
+    EXPECT_NO_VERDICT(ZILQODUR_LIST_RANGE, 1, T(marks), outside, MEMBERS);
+}
+
+static void totals(void) {
+    static const int64_t fair[MEMBERS] = {7, 5, 4}, more[MEMBERS] = {8, 4, 5}, low[MEMBERS] = {7, 5, -30000000000};
+    EXPECT(is_total(zilqodur_check_total(T(marks), fair, MEMBERS), ZILQODUR_NO_REFUSAL, 0, ZILQODUR_ADDS_UP, 0));
+    EXPECT(is_total(zilqodur_check_total(T(marks), sample_proposal, MEMBERS), ZILQODUR_NO_REFUSAL, 0, ZILQODUR_ADDS_UP, 0));
+    EXPECT(is_total(zilqodur_check_total(T(marks), more, MEMBERS), ZILQODUR_NO_REFUSAL, 0, ZILQODUR_OFF, 1));
+    EXPECT(is_total(zilqodur_check_total(T(marks), low, MEMBERS), ZILQODUR_NO_REFUSAL, 0, ZILQODUR_OFF, -30000000004));
+}
+
+/* The total of two proposals is right, of two it is too high, of two too low. */
+static void searches(void) {
+    static const int64_t fair[MEMBERS] = {7, 5, 4}, unfair[MEMBERS] = {3, 4, 9}, more[MEMBERS] = {8, 4, 5}, all_more[MEMBERS] = {9, 9, 9};
+    static const int64_t low[MEMBERS] = {7, 5, -30000000000}, one_more[MEMBERS] = {-30000000000, 13, 4};
+    EXPECT(is_no_group(zilqodur_find_group(T(marks), fair, MEMBERS)));
+    EXPECT(is_found(zilqodur_find_group(T(marks), unfair, MEMBERS), 5, 1, 4));
+    EXPECT(is_found(zilqodur_find_group(T(marks), more, MEMBERS), 2, 2, 5));
+    EXPECT(is_found(zilqodur_find_group(T(marks), all_more, MEMBERS), 11, 3, 7));
+    EXPECT(is_no_group(zilqodur_find_group(T(marks), low, MEMBERS)));
+    EXPECT(is_found(zilqodur_find_group(T(marks), one_more, MEMBERS), 2, 1, 2));
 }
 
 static void cap_sums(void) {
@@ -241,8 +282,10 @@ static void spare(void) {
     EXPECT(are(out, 7, 1, 0) && out[3] == 4);
     EXPECT(is_group(zilqodur_group_cost(T(some), group), ZILQODUR_NO_REFUSAL, 0, 1, 7));
     EXPECT(is_group(zilqodur_group_cost(T(some), beyond), ZILQODUR_GROUP_BIT, 2, 0, 0));
-    EXPECT(is_audit(zilqodur_audit(T(some), fair, 2), 0, 0, ZILQODUR_PASS, 0, 0, 0, 0, 0));
-    EXPECT(is_audit(zilqodur_audit(T(some), whole, 2), 0, 0, ZILQODUR_WRONG_TOTAL, 5, 0, 0, 0, 0));
+    EXPECT(is_total(zilqodur_check_total(T(some), fair, 2), ZILQODUR_NO_REFUSAL, 0, ZILQODUR_ADDS_UP, 0));
+    EXPECT(is_total(zilqodur_check_total(T(some), whole, 2), ZILQODUR_NO_REFUSAL, 0, ZILQODUR_OFF, 5));
+    EXPECT(is_no_group(zilqodur_find_group(T(some), fair, 2)));
+    EXPECT(is_found(zilqodur_find_group(T(some), whole, 2), 5, 1, 1));
     EXPECT(is_cap_sums(zilqodur_list_cap_sums(T(some), low, 2, sums, ARCS), ZILQODUR_NO_REFUSAL, 0, 106));
     EXPECT(are(sums, 6, 6, 0) && sums[3] == 100);
     EXPECT(is_level(zilqodur_split_level(T(some), low, 2, out, 2), ZILQODUR_CAPS_SHORT, 1, 1, 0));
@@ -426,16 +469,34 @@ static void sample_file(const char *path) {
     EXPECT(size == JOB_BYTES && memcmp(held, written, JOB_BYTES) == 0);
 }
 
-static void reports(void) {
-    static const char text[] = "cost 16 members 3\naudit group 1 of 1: 0\nlevel ok\n0 at 2: proposed 8 by-arc 4 level 6\n"
-                               "1 at 3: proposed 4 by-arc 8 level 6\n2 at 4: proposed 4 by-arc 4 level 4\n";
+/* The report on the sample job with this proposal. */
+static void report_of(int64_t a, int64_t b, int64_t c, const char *text) {
     static uint8_t out[ZILQODUR_REPORT_ROOM];
-    uint8_t job[JOB_BYTES];
-    size_t size = put_job(job, 0);
+    uint8_t job[JOB_BYTES], *rows = job + 8 * ARCS;
+    size_t size = put_job(job, 0), length = strlen(text);
+    put(rows + 8, (uint64_t)a, 8);
+    put(rows + 16 + 8, (uint64_t)b, 8);
+    put(rows + 32 + 8, (uint64_t)c, 8);
     EXPECT(sizeof out == 196608);
     memset(out, '#', sizeof out);
-    EXPECT(is_report(zilqodur_report(job, size, out), ZILQODUR_NO_REFUSAL, 0, sizeof text - 1));
-    EXPECT(memcmp(out, text, sizeof text - 1) == 0 && out[sizeof text - 1] == '#' && out[sizeof out - 1] == '#');
+    EXPECT(is_report(zilqodur_report(job, size, out), ZILQODUR_NO_REFUSAL, 0, length));
+    EXPECT(memcmp(out, text, length) == 0 && out[length] == '#' && out[sizeof out - 1] == '#');
+}
+
+/* Each of the lines that the audit may have. */
+static void reports(void) {
+    report_of(8, 4, 4,
+              "cost 16 members 3\naudit group 1 of 1: 0\nlevel ok\n0 at 2: proposed 8 by-arc 4 level 6\n"
+              "1 at 3: proposed 4 by-arc 8 level 6\n2 at 4: proposed 4 by-arc 4 level 4\n");
+    report_of(7, 5, 4,
+              "cost 16 members 3\naudit pass\nlevel ok\n0 at 2: proposed 7 by-arc 4 level 6\n"
+              "1 at 3: proposed 5 by-arc 8 level 6\n2 at 4: proposed 4 by-arc 4 level 4\n");
+    report_of(8, 4, 5,
+              "cost 16 members 3\naudit total 1\naudit group 2 of 2: 0 2\nlevel ok\n0 at 2: proposed 8 by-arc 4 level 6\n"
+              "1 at 3: proposed 4 by-arc 8 level 6\n2 at 4: proposed 5 by-arc 4 level 4\n");
+    report_of(-1, -1, -1,
+              "cost 16 members 3\naudit total -19\nlevel ok\n0 at 2: proposed -1 by-arc 4 level 6\n"
+              "1 at 3: proposed -1 by-arc 8 level 6\n2 at 4: proposed -1 by-arc 4 level 4\n");
 }
 
 /* A star of arcs of the greatest cost, with the greatest caps: sums beyond 32 bits, and the last word of a group. */
@@ -461,10 +522,33 @@ static void largest(void) {
     EXPECT(is_check(zilqodur_check_tree(star, m + 1, dear, m + 1, all, m + 1), ZILQODUR_ARC_COUNT, 0));
     EXPECT(is_needs(zilqodur_list_needs(star, m, dear, m, all, m, out, m), ZILQODUR_NO_REFUSAL, 0, 1023000000000, m));
     EXPECT(is_group(zilqodur_group_cost(star, m, dear, m, all, m, group), ZILQODUR_NO_REFUSAL, 0, m, 1023000000000));
-    EXPECT(is_audit(zilqodur_audit(star, m, dear, m, all, m, proposal, m), 0, 0, ZILQODUR_OBJECTION, 0, 900000000000, 1, 15,
-                    UINT64_C(1) << 62));
+    EXPECT(is_total(zilqodur_check_total(star, m, dear, m, all, m, proposal, m), ZILQODUR_NO_REFUSAL, 0, ZILQODUR_ADDS_UP, 0));
+    EXPECT(is_search(zilqodur_find_group(star, m, dear, m, all, m, proposal, m), ZILQODUR_NO_REFUSAL, 0, ZILQODUR_GROUP, 900000000000, 1,
+                     bits_in(15, UINT64_C(1) << 62)));
     EXPECT(is_cap_sums(zilqodur_list_cap_sums(star, m, dear, m, all, m, caps, m, out, m), ZILQODUR_NO_REFUSAL, 0, 2046000000000000));
     EXPECT(out[0] == 2000000000000 && out[m - 1] == 2000000000000);
+}
+
+/* The same star with all shares at one end of their range: all members together overpay, or nobody does. */
+static void ends_of_range(void) {
+    static uint16_t star[ZILQODUR_MOST_ARCS], all[ZILQODUR_MOST_ARCS];
+    static uint32_t dear[ZILQODUR_MOST_ARCS];
+    static int64_t high[ZILQODUR_MOST_ARCS], low[ZILQODUR_MOST_ARCS];
+    const size_t m = ZILQODUR_MOST_ARCS;
+    uint64_t group[16] = {0};
+    size_t i;
+    for (i = 0; i < m; i++) {
+        all[i] = 1;
+        dear[i] = 1000000000;
+        high[i] = 2000000000000;
+        low[i] = -2000000000000;
+        group[i / 64] |= UINT64_C(1) << (i % 64);
+    }
+    EXPECT(is_total(zilqodur_check_total(star, m, dear, m, all, m, high, m), ZILQODUR_NO_REFUSAL, 0, ZILQODUR_OFF, 2044977000000000));
+    EXPECT(is_total(zilqodur_check_total(star, m, dear, m, all, m, low, m), ZILQODUR_NO_REFUSAL, 0, ZILQODUR_OFF, -2047023000000000));
+    EXPECT(is_search(zilqodur_find_group(star, m, dear, m, all, m, high, m), ZILQODUR_NO_REFUSAL, 0, ZILQODUR_GROUP, 2044977000000000, m,
+                     group));
+    EXPECT(is_no_group(zilqodur_find_group(star, m, dear, m, all, m, low, m)));
 }
 
 /* Each number has a sentence of its own, and every other number the same one. */
@@ -489,7 +573,9 @@ int main(int argc, char **argv) {
     members();
     needs();
     groups();
-    audits();
+    refused_proposals();
+    totals();
+    searches();
     cap_sums();
     level_splits();
     by_arc_splits();
@@ -504,5 +590,6 @@ int main(int argc, char **argv) {
     sample_file(argc == 2 ? argv[1] : "");
     reports();
     largest();
+    ends_of_range();
     return failures > 0;
 }

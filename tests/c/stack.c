@@ -62,8 +62,12 @@ static uint32_t group_cost(void) {
     return zilqodur_group_cost(parents, ARCS, costs, ARCS, marks, ARCS, group).refusal;
 }
 
-static uint32_t audit(void) {
-    return zilqodur_audit(parents, ARCS, costs, ARCS, marks, ARCS, proposal, members).refusal;
+static uint32_t check_total(void) {
+    return zilqodur_check_total(parents, ARCS, costs, ARCS, marks, ARCS, proposal, members).refusal;
+}
+
+static uint32_t find_group(void) {
+    return zilqodur_find_group(parents, ARCS, costs, ARCS, marks, ARCS, proposal, members).refusal;
 }
 
 static uint32_t list_cap_sums(void) {
@@ -111,7 +115,8 @@ static const struct {
     {"zilqodur_list_members", list_members, OTHER},
     {"zilqodur_list_needs", list_needs, OTHER},
     {"zilqodur_group_cost", group_cost, OTHER},
-    {"zilqodur_audit", audit, OTHER},
+    {"zilqodur_check_total", check_total, OTHER},
+    {"zilqodur_find_group", find_group, OTHER},
     {"zilqodur_list_cap_sums", list_cap_sums, OTHER},
     {"zilqodur_split_level", split_level, OTHER},
     {"zilqodur_split_by_arc", split_by_arc, OTHER},
@@ -169,8 +174,8 @@ static int enough(const char *name, size_t bytes) {
     return 1;
 }
 
-/* Caps that are enough, the group of all members, and a first member who pays for the whole tree: where there are
- * others, a group objects. */
+/* Caps that are enough, the group of all members, and a first member who pays a unit more than the whole tree costs:
+ * the total is off and a group overpays. */
 static void write_lists(void) {
     size_t i;
     for (i = 0; i < ARCS; i++) {
@@ -178,7 +183,7 @@ static void write_lists(void) {
         caps[i] = 2000000000000;
     }
     members = zilqodur_mark_dead_ends(parents, ARCS, costs, ARCS, marks, ARCS).members;
-    proposal[0] = INT64_C(1000000000) * ARCS;
+    proposal[0] = INT64_C(1000000000) * ARCS + 1;
     memset(group, 0, sizeof group);
     for (i = 0; i < members; i++) {
         group[i / 64] |= UINT64_C(1) << (i % 64);

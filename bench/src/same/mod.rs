@@ -2,7 +2,6 @@
 //! cleared alike. The checks on all lists but a tree's are the reference's,
 //! which have the same loops.
 
-mod audit;
 mod by_arc;
 mod cap_sums;
 mod check;
@@ -10,9 +9,10 @@ mod dead_ends;
 mod job;
 mod level;
 mod needs;
+mod search;
+mod total;
 mod writer;
 
-pub use audit::audit;
 pub use by_arc::split_by_arc;
 pub use cap_sums::list_cap_sums;
 pub use check::check_tree;
@@ -20,6 +20,8 @@ pub use dead_ends::mark_dead_ends;
 pub use job::read_job;
 pub use level::{answer as level_answer, split_level};
 pub use needs::list_needs;
+pub use search::find_group;
+pub use total::check_total;
 pub use writer::{job_length, write_job};
 
 use crate::ffi::ZilqodurMembers;

@@ -1,4 +1,4 @@
--- The audit's answers: pass, wrong total and objection, over all groups.
+-- The audit's answers over all groups, whatever the total is.
 use Prim.Native.Nat.{ℕ, _≤_, _<_}
 use mathlib.Core.Path.{_≡_, refl, sym, ap, _∙_, subst}
 use mathlib.Core.Bool.{Bool, true, false, cond}
@@ -6,8 +6,8 @@ use mathlib.Core.Logic.{⊎-elim}
 use mathlib.Core.List.{List}
 use native.Mathlib.Decide.{decLt}
 use native.Mathlib.Omega.{arith}
-use borrow.Author.Tests.{eqb-true, ltb-true, ltb-false, lt-ltb, le-ltb}
-use lib.IntN.{ℤ, pos, negsuc}
+use borrow.Author.Tests.{ltb-true, ltb-false, lt-ltb, le-ltb}
+use lib.IntN.{ℤ, pos, negsuc, _-ℤ_}
 use lib.Signed.{_≤ℤ_, ≤ℤ-refl}
 use lib.Dec.{ltb, leb→le, le→leb}
 use Rattle.limits.specs.Limits.{mostArcs}
@@ -26,67 +26,47 @@ use Rattle.game.proofs.Overpayment.{overpayment-same}
 use Rattle.game.proofs.Search.{named-good, named-part, named-ends}
 use Rattle.answer_forms.specs.Answer.{Answer, value, accepted}
 use Rattle.answers.specs.Checks.{treeCheck, proposalCheck}
-use Rattle.answers.specs.Audit.{Verdict, wrongTotal, objection, pass, isZero, groupVerdict, searchVerdict}
-use Rattle.answers.specs.Audit.{verdict, auditCheck, auditAnswer, auditWords, wordsBeside}
-use Rattle.answers.specs.AuditLaws.{ObjectionLaws, AuditStatement, theGroup}
+use Rattle.answers.specs.Audit.{Verdict, found, none, groupVerdict, searchVerdict, auditCheck, totalAnswer}
+use Rattle.answers.specs.Audit.{searchAnswer, searchWords, wordsBeside, Passes}
+use Rattle.answers.specs.AuditLaws.{GroupLaws, AuditStatement, theGroup}
 use Rattle.answer_forms.proofs.Composed.{first-accepted}
 use Rattle.answers.proofs.Accepted.{tree-accepted}
 use Rattle.answers.proofs.Limits.{members-bound}
-
-pub is-zero : (x : ℤ) → isZero x ≡ true → x ≡ pos 0
-is-zero (pos a) e = ap pos (eqb-true a 0 e)
-is-zero (negsuc a) e = absurd (clash e refl)
-
-not-zero : (x : ℤ) → isZero x ≡ false → x ≡ pos 0 → ⊥
-not-zero x e d = clash (ap isZero d) e
+use Rattle.answers.proofs.Laws.{laws}
 
 -- the verdicts are told apart
-pass-not-objection : {a s : ℕ} → objection a s ≡ pass → ⊥
-pass-not-objection e = let z : _≡_ {A = ℕ} 0 1 = cc in omega arith
-
-pass-not-total : {d : ℤ} → wrongTotal d ≡ pass → ⊥
-pass-not-total e = let z : _≡_ {A = ℕ} 0 1 = cc in omega arith
-
-objection-not-total : {d : ℤ} {a s : ℕ} → wrongTotal d ≡ objection a s → ⊥
-objection-not-total e = let z : _≡_ {A = ℕ} 0 1 = cc in omega arith
+none-not-found : {a s : ℕ} → found a s ≡ none → ⊥
+none-not-found e = let z : _≡_ {A = ℕ} 0 1 = cc in omega arith
 
 -- what a verdict on a group says of its overpayment o
-passed : (o : ℤ) (s : ℕ) → groupVerdict o s ≡ pass → o ≤ℤ pos 0
-passed (pos a) s e =
+none-over : (o : ℤ) (s : ℕ) → groupVerdict o s ≡ none → o ≤ℤ pos 0
+none-over (pos a) s e =
     ⊎-elim
-    (λ (l : ltb 0 a ≡ true). absurd (pass-not-objection (rw l at e)))
+    (λ (l : ltb 0 a ≡ true). absurd (none-not-found (rw l at e)))
     (λ (l : ltb 0 a ≡ false). record { le = le→leb a 0 (omega (arith, ltb-false 0 a l)) })
     (both (ltb 0 a))
-passed (negsuc a) s e = record { le = tt }
+none-over (negsuc a) s e = record { le = tt }
 
-passes-by : (o : ℤ) (s : ℕ) → o ≤ℤ pos 0 → groupVerdict o s ≡ pass
-passes-by (pos a) s h = ap (λ (b : Bool). cond b (objection a s) pass) (le-ltb 0 a (leb→le a 0 (h .le)))
-passes-by (negsuc a) s h = refl
+none-by : (o : ℤ) (s : ℕ) → o ≤ℤ pos 0 → groupVerdict o s ≡ none
+none-by (pos a) s h = ap (λ (b : Bool). cond b (found a s) none) (le-ltb 0 a (leb→le a 0 (h .le)))
+none-by (negsuc a) s h = refl
 
-objects-by : (o : ℤ) (s : ℕ) → (o ≤ℤ pos 0 → ⊥) → (a : ℕ) × (groupVerdict o s ≡ objection a s)
-objects-by (pos a) s h =
+found-by : (o : ℤ) (s : ℕ) → (o ≤ℤ pos 0 → ⊥) → (a : ℕ) × (groupVerdict o s ≡ found a s)
+found-by (pos a) s h =
     elim (decLt 0 a) [ yes l ↦ (a, rw (lt-ltb 0 a l)) | no l ↦ absurd (h (record { le = le→leb a 0 (omega arith) })) ]
-objects-by (negsuc a) s h = absurd (h (record { le = tt }))
+found-by (negsuc a) s h = absurd (h (record { le = tt }))
 
-never-total : (o : ℤ) (s : ℕ) {d : ℤ} → groupVerdict o s ≡ wrongTotal d → ⊥
-never-total (pos a) s e =
-    ⊎-elim
-    (λ (l : ltb 0 a ≡ true). objection-not-total (sym (rw l at e)))
-    (λ (l : ltb 0 a ≡ false). pass-not-total (sym (rw l at e)))
-    (both (ltb 0 a))
-never-total (negsuc a) s e = pass-not-total (sym e)
-
-objected : (o : ℤ) (s : ℕ) {a m : ℕ} → groupVerdict o s ≡ objection a m → (o ≡ pos a) × (0 < a) × (s ≡ m)
-objected (pos b) s {a} {m} e =
+found-over : (o : ℤ) (s : ℕ) {a m : ℕ} → groupVerdict o s ≡ found a m → (o ≡ pos a) × (0 < a) × (s ≡ m)
+found-over (pos b) s {a} {m} e =
     ⊎-elim
     (λ (l : ltb 0 b ≡ true).
-    let same : objection b s ≡ objection a m = rw l at e in
+    let same : found b s ≡ found a m = rw l at e in
     let amount : b ≡ a = cc in
     let count : s ≡ m = cc in
     (ap pos amount, omega (arith, ltb-true 0 b l), count))
-    (λ (l : ltb 0 b ≡ false). absurd (pass-not-objection (sym (rw l at e))))
+    (λ (l : ltb 0 b ≡ false). absurd (none-not-found (sym (rw l at e))))
     (both (ltb 0 b))
-objected (negsuc b) s e = absurd (pass-not-objection (sym e))
+found-over (negsuc b) s e = absurd (none-not-found (sym e))
 
 module _ (t : Tree) (shares : List ℤ) (ok : auditCheck t shares ≡ accepted) where
   abbrev n : Network
@@ -95,83 +75,61 @@ module _ (t : Tree) (shares : List ℤ) (ok : auditCheck t shares ≡ accepted) 
   abbrev theNamed : ℕ → Bool
   theNamed = isIn (named n shares)
 
-  answered : auditAnswer t shares ≡ value (verdict n shares)
-  unfolding auditAnswer
-  answered = rw ok
+  totalled : totalAnswer t shares ≡ value (difference n shares)
+  unfolding totalAnswer
+  totalled = rw ok
 
-  same-value : {v w : Verdict} → value v ≡ value w → v ≡ w
+  searched : searchAnswer t shares ≡ value (searchVerdict n shares)
+  unfolding searchAnswer
+  searched = rw ok
+
+  same-value : {A : Type 0} {v w : A} → value v ≡ value w → v ≡ w
   same-value e = cc
 
-  verdict-of : {v : Verdict} → auditAnswer t shares ≡ value v → verdict n shares ≡ v
-  verdict-of e = same-value (sym answered ∙ e)
-
-  right-total : isZero (difference n shares) ≡ true → verdict n shares ≡ searchVerdict n shares
-  unfolding verdict
-  right-total e = rw e
-
-  off-total : isZero (difference n shares) ≡ false → verdict n shares ≡ wrongTotal (difference n shares)
-  unfolding verdict
-  off-total e = rw e
-
-  -- by the total, one verdict or the other
-  by-total : {A : Type 0} → (isZero (difference n shares) ≡ true → A) → (isZero (difference n shares) ≡ false → A) → A
-  by-total yes-total no-total = ⊎-elim yes-total no-total (both (isZero (difference n shares)))
+  verdict-of : {v : Verdict} → searchAnswer t shares ≡ value v → searchVerdict n shares ≡ v
+  verdict-of e = same-value (sym searched ∙ e)
 
   most : (g : ℕ → Bool) → overpayment n shares g ≤ℤ overpayment n shares theNamed
   most g = named-good n shares g .most
 
-  passes-then : auditAnswer t shares ≡ value pass
+  none-then : searchAnswer t shares ≡ value none → (g : ℕ → Bool) → overpayment n shares g ≤ℤ pos 0
+  none-then e g =
+      le-trans-ℤ (most g) (none-over (overpayment n shares theNamed) (size (memberCount n) theNamed) (verdict-of e))
+
+  none-where : ((g : ℕ → Bool) → overpayment n shares g ≤ℤ pos 0) → searchAnswer t shares ≡ value none
+  none-where h =
+      searched ∙ ap value (none-by (overpayment n shares theNamed) (size (memberCount n) theNamed) (h theNamed))
+
+  passes-then : Passes t shares
       → (pays n shares (λ j. true) ≡ pos (wholeCost n))
       × ((g : ℕ → Bool) → pays n shares g ≤ℤ pos (groupCost n (byNumber n g)))
-  passes-then e =
-      by-total
-      (λ z.
-      let none = passed (overpayment n shares theNamed) (size (memberCount n) theNamed)
-      (sym (right-total z) ∙ verdict-of e) in (
-        minus-is (pays n shares (λ j. true)) (wholeCost n) (is-zero (difference n shares) z),
-        λ g. minus-le (pays n shares g) (groupCost n (byNumber n g)) (le-trans-ℤ (most g) none),
-      ))
-      (λ z. absurd (pass-not-total (sym (off-total z) ∙ verdict-of e)))
+  passes-then p = (
+    minus-is (pays n shares (λ j. true)) (wholeCost n) (same-value (sym totalled ∙ p .adds-up)),
+    λ g. minus-le (pays n shares g) (groupCost n (byNumber n g)) (none-then (p .no-group) g),
+  )
 
   passes-where : (pays n shares (λ j. true) ≡ pos (wholeCost n))
       × ((g : ℕ → Bool) → pays n shares g ≤ℤ pos (groupCost n (byNumber n g)))
-      → auditAnswer t shares ≡ value pass
+      → Passes t shares
   passes-where h =
-      by-total
-      (λ z.
-      answered
-      ∙ ap value
-      (right-total z
-      ∙ passes-by (overpayment n shares theNamed) (size (memberCount n) theNamed)
-      (le-minus (pays n shares theNamed) (groupCost n (byNumber n theNamed)) (h .1 theNamed))))
-      (λ z. absurd (not-zero (difference n shares) z (is-minus (pays n shares (λ j. true)) (wholeCost n) (h .0))))
+      record {
+        adds-up = totalled ∙ ap value (is-minus (pays n shares (λ j. true)) (wholeCost n) (h .0));
+        no-group = none-where (λ g. le-minus (pays n shares g) (groupCost n (byNumber n g)) (h .1 g));
+      }
 
-  total-then : (d : ℤ) → auditAnswer t shares ≡ value (wrongTotal d) → (difference n shares ≡ d) × (d ≡ pos 0 → ⊥)
-  total-then d e =
-      by-total
-      (λ z. absurd
-      (never-total (overpayment n shares theNamed) (size (memberCount n) theNamed)
-      (sym (right-total z) ∙ verdict-of e)))
-      (λ z.
-      let same : difference n shares ≡ d = same-total (sym (off-total z) ∙ verdict-of e) in
-      (same, λ f. not-zero (difference n shares) z (same ∙ f)))
-    where
-      same-total : {x y : ℤ} → wrongTotal x ≡ wrongTotal y → x ≡ y
-      same-total f = cc
+  tree-ok : treeCheck t ≡ accepted
+  tree-ok = first-accepted (treeCheck t) (proposalCheck (memberCount n) shares) ok
 
-  total-where : (d : ℤ) → (difference n shares ≡ d) × (d ≡ pos 0 → ⊥) → auditAnswer t shares ≡ value (wrongTotal d)
-  total-where d h =
-      by-total
-      (λ z. absurd (h .1 (sym (h .0) ∙ is-zero (difference n shares) z)))
-      (λ z. answered ∙ ap value (off-total z ∙ ap wrongTotal (h .0)))
+  all-overpay : overpayment n shares (λ j. true) ≡ difference n shares
+  all-overpay = ap (λ (c : ℕ). pays n shares (λ j. true) -ℤ pos c) (laws t tree-ok .all-cost-whole)
 
   few : memberCount n ≤ mostArcs
-  few = members-bound t (tree-accepted t (first-accepted (treeCheck t) (proposalCheck (memberCount n) shares) ok))
+  few = members-bound t (tree-accepted t tree-ok)
 
-  object-then : (amount members : ℕ) → auditAnswer t shares ≡ value (objection amount members)
-      → ObjectionLaws t shares amount members
-  unfolding auditWords
-  object-then amount members e =
+  found-then : (amount members : ℕ) → searchAnswer t shares ≡ value (found amount members)
+      → GroupLaws t shares amount members
+  unfolding searchWords
+  found-then amount members e =
       record {
         overpays = same-over ∙ o .0;
         above-zero = o .1;
@@ -184,13 +142,9 @@ module _ (t : Tree) (shares : List ℤ) (ok : auditCheck t shares ≡ accepted) 
       }
     where
       o : (overpayment n shares theNamed ≡ pos amount) × (0 < amount) × (size (memberCount n) theNamed ≡ members)
-      o =
-          by-total
-          (λ z. objected (overpayment n shares theNamed) (size (memberCount n) theNamed)
-          (sym (right-total z) ∙ verdict-of e))
-          (λ z. absurd (objection-not-total (sym (off-total z) ∙ verdict-of e)))
+      o = found-over (overpayment n shares theNamed) (size (memberCount n) theNamed) (verdict-of e)
 
-      words : auditWords t shares ≡ wordsOf theNamed
+      words : searchWords t shares ≡ wordsOf theNamed
       words = ap (λ (a : Answer Verdict). wordsBeside a (wordsOf theNamed)) e
 
       named-at : (j : ℕ) → j < 1024 → theGroup t shares j ≡ theNamed j
@@ -233,28 +187,28 @@ module _ (t : Tree) (shares : List ℤ) (ok : auditCheck t shares ≡ accepted) 
           (size-full (memberCount n) (theGroup t shares) g (λ i l. part g f i) (omega (arith, counted)) j h)
           (part g f j)
 
-  objects-then : ((amount : ℕ) × (members : ℕ) × (auditAnswer t shares ≡ value (objection amount members)))
-      → (difference n shares ≡ pos 0) × (g : ℕ → Bool) × (overpayment n shares g ≤ℤ pos 0 → ⊥)
-  objects-then (amount, members, e) =
-      let o = object-then amount members e in (
-        by-total (is-zero (difference n shares)) (λ z. absurd (objection-not-total (sym (off-total z) ∙ verdict-of e))),
+  exactly-then : ((amount : ℕ) × (members : ℕ) × (searchAnswer t shares ≡ value (found amount members)))
+      → (g : ℕ → Bool) × (overpayment n shares g ≤ℤ pos 0 → ⊥)
+  exactly-then (amount, members, e) =
+      let o = found-then amount members e in (
         theGroup t shares,
         λ h. omega (arith, o .above-zero, leb→le amount 0 (subst (λ (x : ℤ). x ≤ℤ pos 0) (o .overpays) h .le)),
       )
 
-  objects-where : ((difference n shares ≡ pos 0) × (g : ℕ → Bool) × (overpayment n shares g ≤ℤ pos 0 → ⊥))
-      → (amount : ℕ) × (members : ℕ) × (auditAnswer t shares ≡ value (objection amount members))
-  objects-where (right, g, more) =
-      let by = objects-by (overpayment n shares theNamed) (size (memberCount n) theNamed)
+  exactly-where : ((g : ℕ → Bool) × (overpayment n shares g ≤ℤ pos 0 → ⊥))
+      → (amount : ℕ) × (members : ℕ) × (searchAnswer t shares ≡ value (found amount members))
+  exactly-where (g, more) =
+      let by = found-by (overpayment n shares theNamed) (size (memberCount n) theNamed)
       (λ h. more (le-trans-ℤ (most g) h)) in
-      by-total (λ z. (by .0, size (memberCount n) theNamed, answered ∙ ap value (right-total z ∙ by .1)))
-      (λ z. absurd (not-zero (difference n shares) z right))
+      (by .0, size (memberCount n) theNamed, searched ∙ ap value (by .1))
 
 pub audit-laws : AuditStatement
 audit-laws t shares ok =
     record {
+      total = totalled t shares ok;
+      all-overpay = all-overpay t shares ok;
+      finds-none = (none-then t shares ok, none-where t shares ok);
+      finds-exactly = (exactly-then t shares ok, exactly-where t shares ok);
+      finds = found-then t shares ok;
       passes = (passes-then t shares ok, passes-where t shares ok);
-      wrong-total = λ d. (total-then t shares ok d, total-where t shares ok d);
-      objects-exactly = (objects-then t shares ok, objects-where t shares ok);
-      objects = object-then t shares ok;
     }

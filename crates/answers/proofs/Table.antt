@@ -12,7 +12,7 @@ use Rattle.answers.specs.DeadEnds.{deadEndsAnswer, deadEndsList}
 use Rattle.answers.specs.Members.{memberCountAnswer, membersAnswer, membersList}
 use Rattle.answers.specs.Needs.{needsAnswer, needsList}
 use Rattle.answers.specs.GroupCost.{groupCostAnswer}
-use Rattle.answers.specs.Audit.{verdict, auditAnswer, auditWords}
+use Rattle.answers.specs.Audit.{totalAnswer, searchAnswer, searchWords}
 use Rattle.game.specs.Level.{firstLeast, units, arcsDown}
 use Rattle.answers.specs.Level.{shortArc, levelAnswer, levelList}
 use Rattle.answers.specs.CapSums.{runningTo, capSumsAnswer, capSumsList}
@@ -23,8 +23,8 @@ use Rattle.answers.specs.Table.{Table}
 pub table : Table
 unfolding climb used groupCost sumBelow wholeCost membersTo hasChild deadEnds countedCosts bit size entries wordsOf pays
     groups best named arcByArc treeCheck plainCheck deadEndsAnswer deadEndsList bitsCheck rangeCheck
-    memberCountAnswer membersAnswer membersList needsAnswer needsList groupCostAnswer verdict auditAnswer auditWords
-    firstLeast units arcsDown shortArc levelAnswer levelList giveArc byArcDown byArcAnswer byArcList
+    memberCountAnswer membersAnswer membersList needsAnswer needsList groupCostAnswer totalAnswer searchAnswer
+    searchWords firstLeast units arcsDown shortArc levelAnswer levelList giveArc byArcDown byArcAnswer byArcList
     runningTo capSumsAnswer capSumsList
 table =
     record {
@@ -37,15 +37,20 @@ table =
       T-cost-of-0 = refl;
       T-cost-of-0-1 = refl;
       T-cost-of-1-2 = refl;
-      T-7-5-4 = refl;
+      T-7-5-4-total = refl;
+      T-7-5-4-search = refl;
       T-7-5-4-words = refl;
-      T-8-4-4 = refl;
+      T-8-4-4-total = refl;
+      T-8-4-4-search = refl;
       T-8-4-4-words = refl;
-      T-8-4-5 = refl;
+      T-8-4-5-total = refl;
+      T-8-4-5-search = refl;
       T-8-4-5-words = refl;
-      T-less-1-13-4 = refl;
+      T-less-1-13-4-total = refl;
+      T-less-1-13-4-search = refl;
       T-less-1-13-4-words = refl;
-      W-7-7-6 = refl;
+      W-7-7-6-total = refl;
+      W-7-7-6-search = refl;
       W-7-7-6-words = refl;
       T-level-100 = refl;
       T-level-100-list = refl;
@@ -61,6 +66,15 @@ table =
       U-by-arc-list = refl;
       T-level-0 = refl;
       U-level-100-list = refl;
+      T-9-9-9-total = refl;
+      T-9-9-9-search = refl;
+      T-9-9-9-words = refl;
+      T-below-0-total = refl;
+      T-below-0-search = refl;
+      T-below-0-words = refl;
+      T-outside-total = refl;
+      T-outside-search = refl;
+      T-outside-words = refl;
       T-dead-ends = refl;
       T-dead-ends-list = refl;
       T-dead-ends-short = refl;

@@ -8,6 +8,7 @@ use native.Mathlib.Nat.{zero-div, zero-mod}
 use native.Mathlib.Omega.{arith}
 use borrow.Author.Tests.{le-ltb}
 use lib.ListN.{length}
+use lib.IntN.{ℤ}
 use Rattle.basics.specs.Sum.{list, size}
 use Rattle.basics.proofs.Bools.{both, clash, not-so, and-both, and-first, and-second, pick-yes, pick-no, pick-zero}
 use Rattle.basics.proofs.Bools.{pick-same}
@@ -20,17 +21,18 @@ use Rattle.game.specs.Core.{users}
 use Rattle.game.specs.ByArc.{byArc}
 use Rattle.game.specs.Level.{units, level}
 use Rattle.game.specs.Group.{wordsOf, byNumber}
+use Rattle.game.specs.Proposal.{difference}
 use Rattle.game.specs.Search.{isIn, named}
 use Rattle.basics.specs.Bit.{bit}
 use Rattle.game.proofs.Below.{Rooted, below-trans}
 use Rattle.game.proofs.Groups.{used-of, used-by}
 use Rattle.game.proofs.Counted.{unused-free}
-use Rattle.answer_forms.specs.Answer.{Check, answer, written, _then_}
+use Rattle.answer_forms.specs.Answer.{Check, Answer, answer, written, _then_}
 use Rattle.answers.specs.Checks.{treeCheck, groupCheck, outputCheck, proposalCheck}
 use Rattle.answers.specs.Members.{memberCountAnswer, membersAnswer, membersList}
 use Rattle.answers.specs.Needs.{needsAnswer, needsList}
 use Rattle.answers.specs.GroupCost.{groupCostAnswer}
-use Rattle.answers.specs.Audit.{verdict, wordsBeside, auditAnswer, auditWords}
+use Rattle.answers.specs.Audit.{Verdict, searchVerdict, wordsBeside, totalAnswer, searchAnswer, searchWords}
 use Rattle.answers.specs.Level.{LevelAnswer, capsCheck, shortArc, splitOr9, levelOr, listAfter, levelAnswer}
 use Rattle.answers.specs.Level.{levelList}
 use Rattle.answers.specs.CapSums.{runningSum, allCaps, capSumsAnswer, capSumsList}
@@ -111,8 +113,8 @@ module _ (s t : Tree) (differ : DifferUnused s t) where
       (ap (λ (n : Network). used n everyone k) moved ∙ u))
 
 pub stubs-free : StubStatement
-unfolding memberCountAnswer membersAnswer membersList needsAnswer needsList groupCostAnswer auditAnswer auditWords
-    levelAnswer levelList capSumsAnswer capSumsList byArcAnswer byArcList
+unfolding memberCountAnswer membersAnswer membersList needsAnswer needsList groupCostAnswer totalAnswer searchAnswer
+    searchWords levelAnswer levelList capSumsAnswer capSumsList byArcAnswer byArcList
 stubs-free s t s-ok t-ok differ =
     record {
       check = check;
@@ -129,12 +131,9 @@ stubs-free s t s-ok t-ok differ =
           (λ c n.
           answer (c then groupCheck (memberCount n) words)
           (record { size = size (memberCount n) (bit words); cost = groupCost n (byNumber n (bit words)) }));
-      audit = λ shares. by-both (λ c n. answer (c then proposalCheck (memberCount n) shares) (verdict n shares));
-      audit-words = λ shares.
-          by-both
-          (λ c n.
-          wordsBeside (answer (c then proposalCheck (memberCount n) shares) (verdict n shares))
-          (wordsOf (isIn (named n shares))));
+      total = λ shares. by-both (λ c n. answer (c then proposalCheck (memberCount n) shares) (difference n shares));
+      search = λ shares. by-both (searched shares);
+      search-words = λ shares. by-both (λ c n. wordsBeside (searched shares c n) (wordsOf (isIn (named n shares))));
       level = λ caps out. by-both (leveled caps out);
       level-list = λ caps out. by-both (λ c n. listAfter (leveled caps out c n) out (level n caps (n .cost)));
       cap-sums = λ caps out. by-both (λ c n. answer (summed caps out c n) (allCaps caps));
@@ -150,6 +149,9 @@ stubs-free s t s-ok t-ok differ =
     -- an answer looks only at the check and the network
     by-both : {A : Type 0} (f : Check → Network → A) → f (treeCheck s) (network s) ≡ f (treeCheck t) (network t)
     by-both f = ap₂ f check (same-network s t differ)
+
+    searched : List ℤ → Check → Network → Answer Verdict
+    searched shares c n = answer (c then proposalCheck (memberCount n) shares) (searchVerdict n shares)
 
     leveled : List ℕ → List ℕ → Check → Network → LevelAnswer
     leveled caps out c n =

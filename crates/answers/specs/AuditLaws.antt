@@ -1,4 +1,5 @@
--- What is proved of the audit's answers on every accepted tree and proposal. A group is any set of member numbers.
+-- What is proved of the two answers of the audit on every accepted tree and proposal. A group is any set of member
+-- numbers.
 use Prim.Native.Nat.{ℕ, _≤_, _<_}
 use mathlib.Core.Path.{_≡_}
 use mathlib.Core.Bool.{Bool, true, false}
@@ -13,13 +14,13 @@ use Rattle.basics.specs.Sum.{size}
 use Rattle.game.specs.Proposal.{pays, overpayment, difference}
 use Rattle.answer_forms.specs.Answer.{value, accepted}
 use Rattle.answers.specs.Laws.{costOf, PartOf}
-use Rattle.answers.specs.Audit.{wrongTotal, objection, pass, auditCheck, auditAnswer, auditWords}
+use Rattle.answers.specs.Audit.{found, none, auditCheck, totalAnswer, searchAnswer, searchWords, Passes}
 
 -- the group that the words name
 abbrev pub theGroup : Tree → List ℤ → ℕ → Bool
-theGroup t shares = bit (auditWords t shares)
+theGroup t shares = bit (searchWords t shares)
 
-pub record ObjectionLaws (t : Tree) (shares : List ℤ) (amount members : ℕ) : Type 0 where
+pub record GroupLaws (t : Tree) (shares : List ℤ) (amount members : ℕ) : Type 0 where
   -- the named group overpays exactly the amount, which is above 0, and has as many members as the answer says
   pub overpays : overpayment (network t) shares (theGroup t shares) ≡ pos amount
   pub above-zero : 0 < amount
@@ -40,18 +41,22 @@ pub record ObjectionLaws (t : Tree) (shares : List ℤ) (amount members : ℕ) :
   pub none-beyond : (j : ℕ) → memberCount (network t) ≤ j → theGroup t shares j ≡ false
 
 pub record AuditLaws (t : Tree) (shares : List ℤ) : Type 0 where
-  -- pass, exactly when the proposal adds up to the whole cost and no group pays more than its own network costs
-  pub passes : (auditAnswer t shares ≡ value pass)
+  -- the total check answers the difference
+  pub total : totalAnswer t shares ≡ value (difference (network t) shares)
+  -- it is what all members together overpay, so one above 0 always comes with a group
+  pub all-overpay : overpayment (network t) shares (λ j. true) ≡ difference (network t) shares
+  -- no group is found, exactly when no group's overpayment is above 0
+  pub finds-none : (searchAnswer t shares ≡ value none) ↔ ((g : ℕ → Bool) → overpayment (network t) shares g ≤ℤ pos 0)
+  -- a group is found, exactly when some group's overpayment is above 0
+  pub finds-exactly : ((amount : ℕ) × (members : ℕ) × (searchAnswer t shares ≡ value (found amount members)))
+      ↔ ((g : ℕ → Bool) × (overpayment (network t) shares g ≤ℤ pos 0 → ⊥))
+  pub finds : (amount members : ℕ) → searchAnswer t shares ≡ value (found amount members)
+      → GroupLaws t shares amount members
+  -- the difference is 0 and no group is found, exactly when the proposal adds up to the whole cost and no group pays
+  -- more than its own network costs
+  pub passes : Passes t shares
       ↔ ((pays (network t) shares (λ j. true) ≡ pos (wholeCost (network t)))
       × ((g : ℕ → Bool) → pays (network t) shares g ≤ℤ pos (costOf t g)))
-  -- a wrong total, exactly when the difference is not 0, and with that difference
-  pub wrong-total : (d : ℤ)
-      → (auditAnswer t shares ≡ value (wrongTotal d)) ↔ ((difference (network t) shares ≡ d) × (d ≡ pos 0 → ⊥))
-  -- an objection, exactly when the total is right and some group's overpayment is above 0
-  pub objects-exactly : ((amount : ℕ) × (members : ℕ) × (auditAnswer t shares ≡ value (objection amount members)))
-      ↔ ((difference (network t) shares ≡ pos 0) × (g : ℕ → Bool) × (overpayment (network t) shares g ≤ℤ pos 0 → ⊥))
-  pub objects : (amount members : ℕ) → auditAnswer t shares ≡ value (objection amount members)
-      → ObjectionLaws t shares amount members
 
 abbrev pub AuditStatement : Type 0
 AuditStatement = (t : Tree) (shares : List ℤ) → auditCheck t shares ≡ accepted → AuditLaws t shares

@@ -11,10 +11,10 @@ use Rattle.game.specs.Tree.{Tree, network}
 use Rattle.game.specs.Core.{users, Core}
 use Rattle.game.specs.ByArc.{userCount}
 use Rattle.game.specs.Shapley.{factorial, shapley, pathLength, Within}
-use Rattle.answer_forms.specs.Answer.{value, accepted}
+use Rattle.answer_forms.specs.Answer.{accepted}
 use Rattle.answers.specs.Laws.{ArcOf}
 use Rattle.answers.specs.Members.{membersCheck}
-use Rattle.answers.specs.Audit.{pass, auditAnswer}
+use Rattle.answers.specs.Audit.{Passes}
 use Rattle.answers.specs.ByArc.{byArcList}
 
 -- n!, where n is the number of members
@@ -26,7 +26,7 @@ pub record ByArcLaws (t : Tree) (out : List ℕ) : Type 0 where
   -- the shares add up to the whole cost, and no group pays more than its own network costs
   pub in-core : Core (network t) (map pos (byArcList t out))
   -- so the split passes the audit
-  pub passes : auditAnswer t (map pos (byArcList t out)) ≡ value pass
+  pub passes : Passes t (map pos (byArcList t out))
   -- n! times a share is less than n! times its path's number of arcs away from n! times the Shapley value
   pub near : (j : ℕ) → j < memberCount (network t)
       → Within (membersFactorial t * pathLength (network t) j) (membersFactorial t * getD (byArcList t out) j 0)

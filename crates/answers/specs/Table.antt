@@ -10,7 +10,7 @@ use Rattle.answers.specs.DeadEnds.{deadEndsAnswer, deadEndsList}
 use Rattle.answers.specs.Members.{memberCountAnswer, membersAnswer, membersList}
 use Rattle.answers.specs.Needs.{needsAnswer, needsList}
 use Rattle.answers.specs.GroupCost.{groupCostAnswer}
-use Rattle.answers.specs.Audit.{wrongTotal, objection, pass, auditAnswer, auditWords}
+use Rattle.answers.specs.Audit.{found, none, totalAnswer, searchAnswer, searchWords}
 use Rattle.answers.specs.Level.{split, refusal, levelAnswer, levelList}
 use Rattle.answers.specs.CapSums.{capSumsAnswer, capSumsList}
 use Rattle.answers.specs.ByArc.{byArcAnswer, byArcList}
@@ -53,16 +53,21 @@ pub record Table : Type 0 where
   pub T-cost-of-0 : groupCostAnswer T (group 1) ≡ value (record { size = 1; cost = 7 })
   pub T-cost-of-0-1 : groupCostAnswer T (group 3) ≡ value (record { size = 2; cost = 12 })
   pub T-cost-of-1-2 : groupCostAnswer T (group 6) ≡ value (record { size = 2; cost = 15 })
-  pub T-7-5-4 : auditAnswer T (pos 7 ∷ pos 5 ∷ pos 4 ∷ []) ≡ value pass
-  pub T-7-5-4-words : auditWords T (pos 7 ∷ pos 5 ∷ pos 4 ∷ []) ≡ group 0
-  pub T-8-4-4 : auditAnswer T (pos 8 ∷ pos 4 ∷ pos 4 ∷ []) ≡ value (objection 1 1)
-  pub T-8-4-4-words : auditWords T (pos 8 ∷ pos 4 ∷ pos 4 ∷ []) ≡ group 1
-  pub T-8-4-5 : auditAnswer T (pos 8 ∷ pos 4 ∷ pos 5 ∷ []) ≡ value (wrongTotal (pos 1))
-  pub T-8-4-5-words : auditWords T (pos 8 ∷ pos 4 ∷ pos 5 ∷ []) ≡ group 0
-  pub T-less-1-13-4 : auditAnswer T (negsuc 0 ∷ pos 13 ∷ pos 4 ∷ []) ≡ value (objection 2 1)
-  pub T-less-1-13-4-words : auditWords T (negsuc 0 ∷ pos 13 ∷ pos 4 ∷ []) ≡ group 2
-  pub W-7-7-6 : auditAnswer W (pos 7 ∷ pos 7 ∷ pos 6 ∷ []) ≡ value (objection 2 2)
-  pub W-7-7-6-words : auditWords W (pos 7 ∷ pos 7 ∷ pos 6 ∷ []) ≡ group 3
+  pub T-7-5-4-total : totalAnswer T (pos 7 ∷ pos 5 ∷ pos 4 ∷ []) ≡ value (pos 0)
+  pub T-7-5-4-search : searchAnswer T (pos 7 ∷ pos 5 ∷ pos 4 ∷ []) ≡ value none
+  pub T-7-5-4-words : searchWords T (pos 7 ∷ pos 5 ∷ pos 4 ∷ []) ≡ group 0
+  pub T-8-4-4-total : totalAnswer T (pos 8 ∷ pos 4 ∷ pos 4 ∷ []) ≡ value (pos 0)
+  pub T-8-4-4-search : searchAnswer T (pos 8 ∷ pos 4 ∷ pos 4 ∷ []) ≡ value (found 1 1)
+  pub T-8-4-4-words : searchWords T (pos 8 ∷ pos 4 ∷ pos 4 ∷ []) ≡ group 1
+  pub T-8-4-5-total : totalAnswer T (pos 8 ∷ pos 4 ∷ pos 5 ∷ []) ≡ value (pos 1)
+  pub T-8-4-5-search : searchAnswer T (pos 8 ∷ pos 4 ∷ pos 5 ∷ []) ≡ value (found 2 2)
+  pub T-8-4-5-words : searchWords T (pos 8 ∷ pos 4 ∷ pos 5 ∷ []) ≡ group 5
+  pub T-less-1-13-4-total : totalAnswer T (negsuc 0 ∷ pos 13 ∷ pos 4 ∷ []) ≡ value (pos 0)
+  pub T-less-1-13-4-search : searchAnswer T (negsuc 0 ∷ pos 13 ∷ pos 4 ∷ []) ≡ value (found 2 1)
+  pub T-less-1-13-4-words : searchWords T (negsuc 0 ∷ pos 13 ∷ pos 4 ∷ []) ≡ group 2
+  pub W-7-7-6-total : totalAnswer W (pos 7 ∷ pos 7 ∷ pos 6 ∷ []) ≡ value (pos 0)
+  pub W-7-7-6-search : searchAnswer W (pos 7 ∷ pos 7 ∷ pos 6 ∷ []) ≡ value (found 2 2)
+  pub W-7-7-6-words : searchWords W (pos 7 ∷ pos 7 ∷ pos 6 ∷ []) ≡ group 3
   pub T-level-100 : levelAnswer T (100 ∷ 100 ∷ 100 ∷ []) (lent 3) ≡ split 3
   pub T-level-100-list : levelList T (100 ∷ 100 ∷ 100 ∷ []) (lent 3) ≡ 6 ∷ 6 ∷ 4 ∷ []
   pub T-level-3-9-4 : levelAnswer T (3 ∷ 9 ∷ 4 ∷ []) (lent 3) ≡ split 3
@@ -78,6 +83,16 @@ pub record Table : Type 0 where
   -- beyond the specification's rows: every arc is short, and a rest of 1 between two users
   pub T-level-0 : levelAnswer T (0 ∷ 0 ∷ 0 ∷ []) (lent 3) ≡ refusal 9 4 4
   pub U-level-100-list : levelList U (100 ∷ 100 ∷ []) (lent 2) ≡ 4 ∷ 3 ∷ []
+  -- the whole membership, a difference without a group, and a refusal
+  pub T-9-9-9-total : totalAnswer T (pos 9 ∷ pos 9 ∷ pos 9 ∷ []) ≡ value (pos 11)
+  pub T-9-9-9-search : searchAnswer T (pos 9 ∷ pos 9 ∷ pos 9 ∷ []) ≡ value (found 11 3)
+  pub T-9-9-9-words : searchWords T (pos 9 ∷ pos 9 ∷ pos 9 ∷ []) ≡ group 7
+  pub T-below-0-total : totalAnswer T (negsuc 0 ∷ negsuc 0 ∷ negsuc 0 ∷ []) ≡ value (negsuc 18)
+  pub T-below-0-search : searchAnswer T (negsuc 0 ∷ negsuc 0 ∷ negsuc 0 ∷ []) ≡ value none
+  pub T-below-0-words : searchWords T (negsuc 0 ∷ negsuc 0 ∷ negsuc 0 ∷ []) ≡ group 0
+  pub T-outside-total : totalAnswer T (pos 8 ∷ pos 4 ∷ pos 2000000000001 ∷ []) ≡ no 7 2
+  pub T-outside-search : searchAnswer T (pos 8 ∷ pos 4 ∷ pos 2000000000001 ∷ []) ≡ no 7 2
+  pub T-outside-words : searchWords T (pos 8 ∷ pos 4 ∷ pos 2000000000001 ∷ []) ≡ group 0
   -- marks
   pub T-dead-ends : deadEndsAnswer (T .parents) (T .costs) (lent 4) ≡ value 3
   pub T-dead-ends-list : deadEndsList (T .parents) (T .costs) (lent 4) ≡ 0 ∷ 1 ∷ 1 ∷ 1 ∷ []

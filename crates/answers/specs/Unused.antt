@@ -14,7 +14,7 @@ use Rattle.answers.specs.Laws.{ArcOf}
 use Rattle.answers.specs.Members.{memberCountAnswer, membersAnswer, membersList}
 use Rattle.answers.specs.Needs.{needsAnswer, needsList}
 use Rattle.answers.specs.GroupCost.{groupCostAnswer}
-use Rattle.answers.specs.Audit.{auditAnswer, auditWords}
+use Rattle.answers.specs.Audit.{totalAnswer, searchAnswer, searchWords}
 use Rattle.answers.specs.Level.{levelAnswer, levelList}
 use Rattle.answers.specs.CapSums.{capSumsAnswer, capSumsList}
 use Rattle.answers.specs.ByArc.{byArcAnswer, byArcList}
@@ -44,8 +44,9 @@ pub record SameAnswers (s t : Tree) : Type 0 where
   pub needs : (out : List ℕ) → needsAnswer s out ≡ needsAnswer t out
   pub needs-list : (out : List ℕ) → needsList s out ≡ needsList t out
   pub group-cost : (words : List ℕ) → groupCostAnswer s words ≡ groupCostAnswer t words
-  pub audit : (shares : List ℤ) → auditAnswer s shares ≡ auditAnswer t shares
-  pub audit-words : (shares : List ℤ) → auditWords s shares ≡ auditWords t shares
+  pub total : (shares : List ℤ) → totalAnswer s shares ≡ totalAnswer t shares
+  pub search : (shares : List ℤ) → searchAnswer s shares ≡ searchAnswer t shares
+  pub search-words : (shares : List ℤ) → searchWords s shares ≡ searchWords t shares
   pub level : (caps out : List ℕ) → levelAnswer s caps out ≡ levelAnswer t caps out
   pub level-list : (caps out : List ℕ) → levelList s caps out ≡ levelList t caps out
   pub cap-sums : (caps out : List ℕ) → capSumsAnswer s caps out ≡ capSumsAnswer t caps out

@@ -1,20 +1,21 @@
--- Every answer of an entry can be read back from its struct; an audit's verdict is 0 in a refusal alone.
+-- Every answer of an entry can be read back from its struct; a verdict is 0 in a refusal alone.
 use Prim.Native.Nat.{ℕ, zero, suc, _-_}
-use mathlib.Core.Path.{_≡_, refl, sym, ap, _∙_}
+use mathlib.Core.Path.{_≡_, refl, sym, ap, subst, _∙_}
 use mathlib.Core.List.{List}
 use lib.ListN.{length}
 use lib.Dec.{eqb·suc-zero}
-use lib.IntN.{ℤ}
+use lib.IntN.{ℤ, pos, negsuc}
 use native.Mathlib.Omega.{arith}
 use Rattle.game.specs.Network.{Network, memberCount}
 use Rattle.game.specs.Tree.{Tree, network}
+use Rattle.game.specs.Proposal.{difference}
 use Rattle.answer_forms.specs.Answer.{Check, accepted, refused, Answer, value, refusal, _then_, answer}
 use Rattle.answers.specs.Checks.{treeCheck, plainCheck, groupCheck, outputCheck, proposalCheck, outsideShare}
 use Rattle.answers.specs.DeadEnds.{deadEndsCheck, deadEndsAnswer}
 use Rattle.answers.specs.Members.{memberCountAnswer, membersCheck, membersAnswer}
 use Rattle.answers.specs.Needs.{needsAnswer}
 use Rattle.answers.specs.GroupCost.{groupCostAnswer}
-use Rattle.answers.specs.Audit.{Verdict, wrongTotal, objection, pass, auditAnswer}
+use Rattle.answers.specs.Audit.{Verdict, found, none, auditCheck, totalAnswer, searchVerdict, searchAnswer}
 use Rattle.answers.specs.Level.{LevelAnswer, outsideCap, capsCheck, shortArc, levelOr, splitOr9, levelAnswer}
 use Rattle.answers.specs.CapSums.{capSumsAnswer}
 use Rattle.answers.specs.ByArc.{byArcAnswer}
@@ -22,7 +23,8 @@ use Rattle.job_bytes.specs.JobBytes.{Contents, jobBytes}
 use Rattle.job.specs.Reader.{Lent, readCheck, jobAnswer}
 use Rattle.job.specs.Writer.{contentsCheck, lengthAnswer, writeCheck, writeAnswer}
 use Rattle.capi.specs.Structs.{encodeMembers, decodeMembers, encodeNeeds, decodeNeeds, encodeGroup, decodeGroup}
-use Rattle.capi.specs.Structs.{encodeAudit, decodeAudit, VerdictUnlessRefused, encodeLevel, decodeLevel}
+use Rattle.capi.specs.Structs.{encodeTotal, decodeTotal, encodeSearch, decodeSearch, VerdictUnlessRefused}
+use Rattle.capi.specs.Structs.{encodeLevel, decodeLevel}
 use Rattle.capi.specs.Structs.{encodeCapSums, decodeCapSums, encodeJob, decodeJob}
 use Rattle.capi.specs.Structs.{encodeJobLength, decodeJobLength}
 use Rattle.capi.proofs.Kept.{Kept, then-kept, tree-kept, plain-kept, bits-kept, list-kept, output-kept}
@@ -36,6 +38,17 @@ stands-for encode decode is finds back =
     let e = is ∙ ap encode finds in
     let d = ap decode e ∙ back in
     (d, e ∙ ap encode (sym d))
+
+-- and what holds of the answer's own struct
+pub stands-with : {A S : Type 0} (Holds : S → Type 0) (encode : A → S) (decode : S → A) {a found : A} {s : S}
+    → s ≡ encode found
+    → found ≡ a
+    → decode (encode a) ≡ a
+    → Holds (encode a)
+    → (decode s ≡ a) × ((s ≡ encode (decode s)) × Holds s)
+stands-with Holds encode decode is finds back holds =
+    let r = stands-for encode decode is finds back in
+    (r .0, (r .1, subst Holds (sym (is ∙ ap encode finds)) holds))
 
 not-zero : {place : ℕ} → accepted ≡ refused 0 place → ⊥
 not-zero e = let z : _≡_ {A = ℕ} 0 1 = cc in omega arith
@@ -89,27 +102,58 @@ group-back t words =
     (then-kept (treeCheck t) (groupCheck (memberCount (network t)) words) (tree-kept t)
     (bits-kept words (1024 - memberCount (network t)) (memberCount (network t))))
 
-pub audit-back : (a : Answer Verdict) (words : List ℕ) → decodeAudit (encodeAudit a words) ≡ a
-audit-back (value (wrongTotal difference)) words = refl
-audit-back (value (objection amount size)) words = refl
-audit-back (value pass) words = refl
-audit-back (refusal number place) words = refl
+pub search-back : (a : Answer Verdict) (words : List ℕ) → decodeSearch (encodeSearch a words) ≡ a
+search-back (value (found amount size)) words = refl
+search-back (value none) words = refl
+search-back (refusal number place) words = refl
 
-answered-verdict : (c : Check) (v : Verdict) (words : List ℕ) → Kept c
-    → VerdictUnlessRefused (encodeAudit (answer c v) words)
-answered-verdict accepted (wrongTotal difference) words kept = refl
-answered-verdict accepted (objection amount size) words kept = refl
-answered-verdict accepted pass words kept = refl
-answered-verdict (refused zero place) v words kept = absurd (not-zero kept)
-answered-verdict (refused (suc n) place) v words kept = rw (eqb·suc-zero n)
+pub total-back : (a : Answer ℤ) → decodeTotal (encodeTotal a) ≡ a
+total-back (value (pos zero)) = refl
+total-back (value (pos (suc n))) = rw (eqb·suc-zero n)
+total-back (value (negsuc n)) = refl
+total-back (refusal number place) = refl
 
-pub audit-verdict : (t : Tree) (shares : List ℤ) (words : List ℕ)
-    → VerdictUnlessRefused (encodeAudit (auditAnswer t shares) words)
-unfolding auditAnswer
-audit-verdict t shares words =
-    answered-verdict _ _ words
-    (then-kept (treeCheck t) (proposalCheck (memberCount (network t)) shares) (tree-kept t)
-    (list-kept outsideShare (memberCount (network t)) shares))
+audit-kept : (t : Tree) (shares : List ℤ) → Kept (auditCheck t shares)
+audit-kept t shares =
+    then-kept (treeCheck t) (proposalCheck (memberCount (network t)) shares) (tree-kept t)
+    (list-kept outsideShare (memberCount (network t)) shares)
+
+-- a refusal whose number is kept is not 0, so its struct has no verdict and those of values have
+module _ {A S : Type 0} (encode : Answer A → S) (verdict number : S → ℕ)
+    (values : (x : A) → VerdictUnlessRefused (verdict (encode (value x))) (number (encode (value x))))
+    (refusals : (n place : ℕ) → VerdictUnlessRefused (verdict (encode (refusal (suc n) place)))
+    (number (encode (refusal (suc n) place)))) where
+  verdict-unless : (c : Check) (x : A) → Kept c
+      → VerdictUnlessRefused (verdict (encode (answer c x))) (number (encode (answer c x)))
+  verdict-unless accepted x kept = values x
+  verdict-unless (refused zero place) x kept = absurd (not-zero kept)
+  verdict-unless (refused (suc n) place) x kept = refusals n place
+
+found-verdict : (v : Verdict) (words : List ℕ)
+    → VerdictUnlessRefused (encodeSearch (value v) words .verdict) (encodeSearch (value v) words .refusal)
+found-verdict (found amount size) words = refl
+found-verdict none words = refl
+
+pub search-verdict : (t : Tree) (shares : List ℤ) (words : List ℕ)
+    → VerdictUnlessRefused (encodeSearch (searchAnswer t shares) words .verdict)
+    (encodeSearch (searchAnswer t shares) words .refusal)
+unfolding searchAnswer
+search-verdict t shares words =
+    verdict-unless (λ a. encodeSearch a words) (λ s. s .verdict) (λ s. s .refusal) (λ v. found-verdict v words)
+    (λ n place. rw (eqb·suc-zero n)) (auditCheck t shares) (searchVerdict (network t) shares) (audit-kept t shares)
+
+total-found-verdict : (d : ℤ)
+    → VerdictUnlessRefused (encodeTotal (value d) .verdict) (encodeTotal (value d) .refusal)
+total-found-verdict (pos zero) = refl
+total-found-verdict (pos (suc n)) = rw (eqb·suc-zero n)
+total-found-verdict (negsuc n) = refl
+
+pub total-verdict : (t : Tree) (shares : List ℤ)
+    → VerdictUnlessRefused (encodeTotal (totalAnswer t shares) .verdict) (encodeTotal (totalAnswer t shares) .refusal)
+unfolding totalAnswer
+total-verdict t shares =
+    verdict-unless encodeTotal (λ s. s .verdict) (λ s. s .refusal) total-found-verdict
+    (λ n place. rw (eqb·suc-zero n)) (auditCheck t shares) (difference (network t) shares) (audit-kept t shares)
 
 level-or-back : (c : Check) (a : LevelAnswer) → Kept c → decodeLevel (encodeLevel a) ≡ a
     → decodeLevel (encodeLevel (levelOr c a)) ≡ levelOr c a

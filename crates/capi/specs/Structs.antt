@@ -1,7 +1,7 @@
 -- The struct of each answer, and the answer that a struct stands for. A refusal of 0 means that there is none.
 use Prim.Native.Nat.{ℕ, zero, suc}
 use mathlib.Core.Path.{_≡_}
-use mathlib.Core.Bool.{not}
+use mathlib.Core.Bool.{not, cond}
 use mathlib.Core.List.{List}
 use lib.ListN.{length}
 use lib.Dec.{eqb}
@@ -9,14 +9,16 @@ use lib.IntN.{ℤ, pos}
 use Rattle.answer_forms.specs.Answer.{Check, accepted, refused, Answer, value, refusal}
 use Rattle.answers.specs.Needs.{NeedsValue}
 use Rattle.answers.specs.GroupCost.{GroupCostValue}
-use Rattle.answers.specs.Audit.{Verdict, wrongTotal, objection, pass}
+use Rattle.answers.specs.Audit.{Verdict, found, none}
 use Rattle.answers.specs.Level.{LevelAnswer, split, refusal as notSplit}
+use Rattle.numbers.specs.Signed.{isZero}
 use Rattle.job.specs.Reader.{JobValue}
 use Rattle.capi.specs.declared.check.ZilqodurCheck.{ZilqodurCheck}
 use Rattle.capi.specs.declared.members.ZilqodurMembers.{ZilqodurMembers}
 use Rattle.capi.specs.declared.needs.ZilqodurNeeds.{ZilqodurNeeds}
 use Rattle.capi.specs.declared.group.ZilqodurGroup.{ZilqodurGroup}
-use Rattle.capi.specs.declared.proposal_audit.ZilqodurAudit.{ZilqodurAudit}
+use Rattle.capi.specs.declared.group_search.ZilqodurSearch.{ZilqodurSearch}
+use Rattle.capi.specs.declared.total.ZilqodurTotal.{ZilqodurTotal}
 use Rattle.capi.specs.declared.cap_sums.ZilqodurCapSums.{ZilqodurCapSums}
 use Rattle.capi.specs.declared.level_split.ZilqodurLevel.{ZilqodurLevel}
 use Rattle.capi.specs.declared.job_read.ZilqodurJob.{ZilqodurJob}
@@ -61,40 +63,43 @@ encodeGroup (refusal number place) = record { refusal = number; place = place; s
 abbrev pub decodeGroup : ZilqodurGroup → Answer GroupCostValue
 decodeGroup s = valueOr (s .refusal) (s .place) (record { size = s .size; cost = s .cost })
 
--- an audit that is not refused
-abbrev pub auditedStruct : (verdict : ℕ) → ℤ → (amount size : ℕ) → List ℕ → ZilqodurAudit
-auditedStruct verdict difference amount size words =
-    record {
-      refusal = 0;
-      place = 0;
-      verdict = verdict;
-      difference = difference;
-      amount = amount;
-      size = size;
-      group = words;
-    }
+-- a search that is not refused
+abbrev pub searchedStruct : (verdict amount size : ℕ) → List ℕ → ZilqodurSearch
+searchedStruct verdict amount size words =
+    record { refusal = 0; place = 0; verdict = verdict; amount = amount; size = size; group = words }
 
--- the verdict is 0 in a refusal, 1 for pass, 2 for a wrong total, 3 for an objection
-abbrev pub encodeAudit : Answer Verdict → List ℕ → ZilqodurAudit
-encodeAudit (value pass) words = auditedStruct 1 (pos 0) 0 0 words
-encodeAudit (value (wrongTotal difference)) words = auditedStruct 2 difference 0 0 words
-encodeAudit (value (objection amount size)) words = auditedStruct 3 (pos 0) amount size words
-encodeAudit (refusal number place) words =
-    record { refusal = number; place = place; verdict = 0; difference = pos 0; amount = 0; size = 0; group = words }
+-- the verdict is 0 in a refusal, 1 where there is no group, 2 where one is found
+abbrev pub encodeSearch : Answer Verdict → List ℕ → ZilqodurSearch
+encodeSearch (value none) words = searchedStruct 1 0 0 words
+encodeSearch (value (found amount size)) words = searchedStruct 2 amount size words
+encodeSearch (refusal number place) words =
+    record { refusal = number; place = place; verdict = 0; amount = 0; size = 0; group = words }
 
 -- what the struct stands for, by its verdict
-abbrev pub auditBy : ZilqodurAudit → (verdict : ℕ) → Answer Verdict
-auditBy s zero = refusal (s .refusal) (s .place)
-auditBy s (suc zero) = value pass
-auditBy s (suc (suc zero)) = value (wrongTotal (s .difference))
-auditBy s (suc (suc (suc n))) = value (objection (s .amount) (s .size))
+abbrev pub searchBy : ZilqodurSearch → (verdict : ℕ) → Answer Verdict
+searchBy s zero = refusal (s .refusal) (s .place)
+searchBy s (suc zero) = value none
+searchBy s (suc (suc n)) = value (found (s .amount) (s .size))
 
-abbrev pub decodeAudit : ZilqodurAudit → Answer Verdict
-decodeAudit s = auditBy s (s .verdict)
+abbrev pub decodeSearch : ZilqodurSearch → Answer Verdict
+decodeSearch s = searchBy s (s .verdict)
+
+-- the verdict is 0 in a refusal, 1 where the proposal adds up, 2 where it is off
+abbrev pub encodeTotal : Answer ℤ → ZilqodurTotal
+encodeTotal (value d) = record { refusal = 0; place = 0; verdict = cond (isZero d) 1 2; difference = d }
+encodeTotal (refusal number place) = record { refusal = number; place = place; verdict = 0; difference = pos 0 }
+
+-- what the struct stands for, by its verdict
+abbrev pub totalBy : ZilqodurTotal → (verdict : ℕ) → Answer ℤ
+totalBy s zero = refusal (s .refusal) (s .place)
+totalBy s (suc n) = value (s .difference)
+
+abbrev pub decodeTotal : ZilqodurTotal → Answer ℤ
+decodeTotal s = totalBy s (s .verdict)
 
 -- the verdict is 0 exactly where the refusal is not
-abbrev pub VerdictUnlessRefused : ZilqodurAudit → Type 0
-VerdictUnlessRefused s = eqb (s .verdict) 0 ≡ not (eqb (s .refusal) 0)
+abbrev pub VerdictUnlessRefused : (verdict number : ℕ) → Type 0
+VerdictUnlessRefused verdict number = eqb verdict 0 ≡ not (eqb number 0)
 
 abbrev pub encodeCapSums : Answer ℕ → ZilqodurCapSums
 encodeCapSums (value n) = record { refusal = 0; place = 0; total = n }

@@ -1,7 +1,7 @@
 pub mod OneToOne
 mod TreeAccepted
 mod MembersListed
-mod AuditAnswer
 mod NamedSize
-mod Total
+mod ProposalAccepted
+mod Difference
 mod LevelAnswer

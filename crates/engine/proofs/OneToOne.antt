@@ -1,24 +1,26 @@
 -- Two answers of an entry that stand for the same value or refusal are the same: each answer can be read back.
 use Prim.Native.Nat.{ℕ}
+use lib.IntN.{ℤ}
 use mathlib.Core.Path.{_≡_, refl, sym, ap, _∙_}
 use Rattle.answer_forms.specs.Answer.{Answer, value, refusal, Check, accepted, refused}
 use Rattle.answers.specs.Needs.{NeedsValue}
 use Rattle.answers.specs.GroupCost.{GroupCostValue}
-use Rattle.answers.specs.Audit.{Verdict, wrongTotal, objection, pass}
+use Rattle.answers.specs.Audit.{Verdict, found, none}
 use Rattle.answers.specs.Level.{LevelAnswer, split, refusal as notSplit}
 use Rattle.answer_forms.specs.Checked.{checkOf}
 use Rattle.answer_forms.specs.declared.Checked.{Checked}
 use Rattle.answer_forms.specs.declared.Checked.the-variants.{Accepted, Refused as NotAccepted}
-use Rattle.engine.specs.Outcomes.{memberCountOf, needsOf, groupCostOf, auditOf, capSumsOf, levelOf}
+use Rattle.engine.specs.Outcomes.{memberCountOf, needsOf, groupCostOf, totalOf, searchOf, capSumsOf, levelOf}
 use Rattle.engine.specs.declared.members.MemberCount.{MemberCount}
 use Rattle.engine.specs.declared.members.MemberCount.the-variants.{Members, Refused as NoMembers}
 use Rattle.engine.specs.declared.needs.NeedsFound.{NeedsFound}
 use Rattle.engine.specs.declared.needs.NeedsFound.the-variants.{Needs, Refused as NoNeeds}
 use Rattle.engine.specs.declared.group.GroupCost.{GroupCost}
 use Rattle.engine.specs.declared.group.GroupCost.the-variants.{Cost, Refused as NoCost}
-use Rattle.engine.specs.declared.proposal_audit.AuditFound.{AuditFound}
-use Rattle.engine.specs.declared.proposal_audit.AuditFound.the-variants.{WrongTotal, Objection, Pass}
-use Rattle.engine.specs.declared.proposal_audit.AuditFound.the-variants.{Refused as NoAudit}
+use Rattle.engine.specs.declared.total.TotalFound.{TotalFound}
+use Rattle.engine.specs.declared.total.TotalFound.the-variants.{Difference, Refused as NoDifference}
+use Rattle.engine.specs.declared.group_search.GroupFound.{GroupFound}
+use Rattle.engine.specs.declared.group_search.GroupFound.the-variants.{Group, NoGroup, Refused as NoSearch}
 use Rattle.engine.specs.declared.cap_sums.CapSumsFound.{CapSumsFound}
 use Rattle.engine.specs.declared.cap_sums.CapSumsFound.the-variants.{Total, Refused as NoTotal}
 use Rattle.engine.specs.declared.level_split.LevelSplit.{LevelSplit}
@@ -71,20 +73,29 @@ cost-is (NoCost r) = refl
 pub group-cost-one-to-one : (a b : GroupCost) → groupCostOf a ≡ groupCostOf b → a ≡ b
 group-cost-one-to-one = read-back groupCostOf cost-back cost-is
 
-abbrev audit-back : Answer Verdict → AuditFound
-audit-back (value (wrongTotal difference)) = WrongTotal difference
-audit-back (value (objection amount size)) = Objection amount size
-audit-back (value pass) = Pass
-audit-back (refusal number place) = NoAudit (record { number = number; place = place })
+abbrev total-back : Answer ℤ → TotalFound
+total-back (value d) = Difference d
+total-back (refusal number place) = NoDifference (record { number = number; place = place })
 
-audit-is : (a : AuditFound) → audit-back (auditOf a) ≡ a
-audit-is (WrongTotal difference) = refl
-audit-is (Objection amount size) = refl
-audit-is Pass = refl
-audit-is (NoAudit r) = refl
+total-is : (a : TotalFound) → total-back (totalOf a) ≡ a
+total-is (Difference d) = refl
+total-is (NoDifference r) = refl
 
-pub audit-one-to-one : (a b : AuditFound) → auditOf a ≡ auditOf b → a ≡ b
-audit-one-to-one = read-back auditOf audit-back audit-is
+pub total-one-to-one : (a b : TotalFound) → totalOf a ≡ totalOf b → a ≡ b
+total-one-to-one = read-back totalOf total-back total-is
+
+abbrev search-back : Answer Verdict → GroupFound
+search-back (value (found amount size)) = Group amount size
+search-back (value none) = NoGroup
+search-back (refusal number place) = NoSearch (record { number = number; place = place })
+
+search-is : (a : GroupFound) → search-back (searchOf a) ≡ a
+search-is (Group amount size) = refl
+search-is NoGroup = refl
+search-is (NoSearch r) = refl
+
+pub search-one-to-one : (a b : GroupFound) → searchOf a ≡ searchOf b → a ≡ b
+search-one-to-one = read-back searchOf search-back search-is
 
 abbrev cap-sums-back : Answer ℕ → CapSumsFound
 cap-sums-back (value n) = Total n

@@ -5,9 +5,9 @@ use mathlib.Core.List.{List, [], _++_}
 use native.Mathlib.Omega.{arith}
 use lib.ListN.{length, take, replicate, length-append}
 use Rattle.limits.specs.Limits.{mostArcs}
-use Rattle.basics.specs.Sum.{count}
-use Rattle.game.specs.Network.{memberCount}
-use Rattle.game.specs.Tree.{Tree, networkOf, marked, countedCosts, network}
+use Rattle.basics.specs.Sum.{count, sum}
+use Rattle.game.specs.Network.{memberCount, wholeCost}
+use Rattle.game.specs.Tree.{Tree, ofArc, networkOf, marked, countedCosts, network}
 use Rattle.basics.proofs.Lists.{front-part, zeros-length}
 use Rattle.basics.proofs.Sums.{count-le}
 use Rattle.game.proofs.Counted.{counted-length, counted-le}
@@ -34,6 +34,15 @@ module _ (t : Tree) {cs : List ℕ} (are : cs ≡ countedCosts t) where
 
   pub counted-part : (rest : List ℕ) → take (length (t .parents) - 0) (cs ++ rest) ≡ countedCosts t
   counted-part rest = front-part cs rest (length (t .parents)) sized ∙ are
+
+  -- they add up to the whole cost
+  pub counted-whole : (rest : List ℕ)
+      → sum (length (take (length (t .parents) - 0) (cs ++ rest))) (ofArc (take (length (t .parents) - 0) (cs ++ rest)))
+      ≡ wholeCost (network t)
+  unfolding wholeCost
+  counted-whole rest =
+      rw (counted-part rest)
+      (ap (λ (k : ℕ). sum k (ofArc (countedCosts t))) (counted-length t))
 
 module _ (t : Tree) (ok : treeCheck t ≡ accepted) where
   pub accepted-sound : Sound (t .parents)
@@ -72,3 +81,7 @@ module _ (t : Tree) (ok : treeCheck t ≡ accepted) where
             sized = counted-length t;
             limited = λ k. omega (arith, counted-le t k, tree-accepted t ok .limited k);
           }
+
+  pub counted-few : {cs : List ℕ} → cs ≡ countedCosts t → (rest : List ℕ)
+      → length (take (length (t .parents) - 0) (cs ++ rest)) ≤ mostArcs
+  counted-few are rest = omega (arith, ap length (counted-part t are rest), counted-length t, accepted-sound .few)

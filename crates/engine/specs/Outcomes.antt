@@ -1,9 +1,10 @@
 -- What each case of an entry's answer stands for.
 use Prim.Native.Nat.{ℕ}
+use lib.IntN.{ℤ}
 use Rattle.answer_forms.specs.Answer.{Answer, value, refusal}
 use Rattle.answers.specs.Needs.{NeedsValue}
 use Rattle.answers.specs.GroupCost.{GroupCostValue}
-use Rattle.answers.specs.Audit.{Verdict, wrongTotal, objection, pass}
+use Rattle.answers.specs.Audit.{Verdict, found, none}
 use Rattle.answers.specs.Level.{LevelAnswer, split, refusal as notSplit}
 use Rattle.engine.specs.declared.members.MemberCount.{MemberCount}
 use Rattle.engine.specs.declared.members.MemberCount.the-variants.{Members, Refused as NoMembers}
@@ -11,9 +12,10 @@ use Rattle.engine.specs.declared.needs.NeedsFound.{NeedsFound}
 use Rattle.engine.specs.declared.needs.NeedsFound.the-variants.{Needs, Refused as NoNeeds}
 use Rattle.engine.specs.declared.group.GroupCost.{GroupCost}
 use Rattle.engine.specs.declared.group.GroupCost.the-variants.{Cost, Refused as NoCost}
-use Rattle.engine.specs.declared.proposal_audit.AuditFound.{AuditFound}
-use Rattle.engine.specs.declared.proposal_audit.AuditFound.the-variants.{WrongTotal, Objection, Pass}
-use Rattle.engine.specs.declared.proposal_audit.AuditFound.the-variants.{Refused as NoAudit}
+use Rattle.engine.specs.declared.total.TotalFound.{TotalFound}
+use Rattle.engine.specs.declared.total.TotalFound.the-variants.{Difference, Refused as NoDifference}
+use Rattle.engine.specs.declared.group_search.GroupFound.{GroupFound}
+use Rattle.engine.specs.declared.group_search.GroupFound.the-variants.{Group, NoGroup, Refused as NoSearch}
 use Rattle.engine.specs.declared.cap_sums.CapSumsFound.{CapSumsFound}
 use Rattle.engine.specs.declared.cap_sums.CapSumsFound.the-variants.{Total, Refused as NoTotal}
 use Rattle.engine.specs.declared.level_split.LevelSplit.{LevelSplit}
@@ -31,11 +33,14 @@ abbrev pub groupCostOf : GroupCost → Answer GroupCostValue
 groupCostOf (Cost size cost) = value (record { size = size; cost = cost })
 groupCostOf (NoCost r) = refusal (r .number) (r .place)
 
-abbrev pub auditOf : AuditFound → Answer Verdict
-auditOf (WrongTotal difference) = value (wrongTotal difference)
-auditOf (Objection amount size) = value (objection amount size)
-auditOf Pass = value pass
-auditOf (NoAudit r) = refusal (r .number) (r .place)
+abbrev pub totalOf : TotalFound → Answer ℤ
+totalOf (Difference d) = value d
+totalOf (NoDifference r) = refusal (r .number) (r .place)
+
+abbrev pub searchOf : GroupFound → Answer Verdict
+searchOf (Group amount size) = value (found amount size)
+searchOf NoGroup = value none
+searchOf (NoSearch r) = refusal (r .number) (r .place)
 
 abbrev pub capSumsOf : CapSumsFound → Answer ℕ
 capSumsOf (Total n) = value n

@@ -1,8 +1,12 @@
--- Signed numbers by their bits.
+-- Signed numbers against 0, and by their bits.
 use Prim.Native.Nat.{ℕ, _-_, _^_}
-use mathlib.Core.Bool.{cond}
-use lib.Dec.{ltb}
+use mathlib.Core.Bool.{Bool, false, cond}
+use lib.Dec.{eqb, ltb}
 use lib.IntN.{ℤ, pos, negsuc}
+
+abbrev pub isZero : ℤ → Bool
+isZero (pos n) = eqb n 0
+isZero (negsuc n) = false
 
 -- the number with these 64 bits in two's complement
 unfoldable pub signed64 : ℕ → ℤ

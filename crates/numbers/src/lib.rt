@@ -3,6 +3,7 @@
 mod signed;
 
 pub use signed::bits_of;
+pub use signed::is_zero;
 pub use signed::minus;
 pub use signed::of_bits;
 pub use signed::plus;

@@ -1,7 +1,7 @@
-// A signed number taken apart, and made of its bits. -1 - x turns a sign and fits for every x.
+// A signed number compared with 0, taken apart, and made of its bits. -1 - x turns a sign and fits for every x.
 ghost use mathlib.Core.Path.{_≡_};
 ghost use Rattle.basics.specs.Integer.{plus as plusOf, minus as minusOf};
-ghost use Rattle.numbers.specs.Signed.{signed64, bits64};
+ghost use Rattle.numbers.specs.Signed.{isZero, signed64, bits64};
 
 // x where it is positive, else 0.
 pub fn plus(x: i64) -> u64
@@ -18,6 +18,12 @@ pub fn minus(x: i64) -> u64
 }
 
 const MOST_POSITIVE: u64 = i64::MAX as u64;
+
+pub fn is_zero(x: i64) -> bool
+    ensures { λ r. ⌜ r ≡ isZero x ⌝ }
+{
+    x == 0
+}
 
 // The number with these bits in two's complement.
 pub fn of_bits(bits: u64) -> i64

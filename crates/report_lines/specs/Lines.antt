@@ -2,13 +2,14 @@
 use Prim.Native.Nat.{ℕ, zero, suc}
 use Prim.Native.String.{String}
 use mathlib.Core.Bool.{cond}
-use mathlib.Core.List.{List, [], _++_}
+use mathlib.Core.List.{List, [], _∷_, _++_}
 use lib.ListN.{getD}
 use lib.IntN.{ℤ, pos}
 use Rattle.basics.specs.Bit.{bit}
 use Rattle.answer_forms.specs.Answer.{Answer, value, refusal}
-use Rattle.answers.specs.Audit.{Verdict, wrongTotal, objection, pass}
+use Rattle.answers.specs.Audit.{Verdict, found, none}
 use Rattle.answers.specs.Level.{LevelAnswer, split, refusal as notSplit}
+use Rattle.numbers.specs.Signed.{isZero}
 use Rattle.text.specs.Ascii.{ascii}
 use Rattle.text.specs.Decimal.{decimal, signedDecimal}
 
@@ -34,19 +35,33 @@ unfoldable pub groupText : List ℕ → ℕ → List ℕ
 groupText words zero = []
 groupText words (suc j) = groupText words j ++ cond (bit words j) (labelled " " j) []
 
-abbrev pub objectionLine : ℕ → ℕ → List ℕ → ℕ → List ℕ
-objectionLine amount size words members =
+-- the group that overpays most, of this many members in all
+abbrev pub groupLine : (amount size : ℕ) → List ℕ → ℕ → List ℕ
+groupLine amount size words members =
     labelled "audit group " amount ++ labelled " of " size ++ ascii ":" ++ groupText words members ++ newline
 
 abbrev pub totalLine : ℤ → List ℕ
 totalLine difference = labelledSigned "audit total " difference ++ newline
 
--- the audit where there are this many members; the audit of a job that was read is not refused
-abbrev pub auditLine : ℕ → Answer Verdict → List ℕ → List ℕ
-auditLine members (value (wrongTotal difference)) words = totalLine difference
-auditLine members (value (objection amount size)) words = objectionLine amount size words members
-auditLine members (value pass) words = ascii "audit pass\n"
-auditLine members (refusal number place) words = refusedLine number place
+-- the total where it is off; on a job that was read neither check is refused
+abbrev pub totalText : Answer ℤ → List ℕ
+totalText (value difference) = cond (isZero difference) [] (totalLine difference)
+totalText (refusal number place) = refusedLine number place
+
+-- the group where one is found
+abbrev pub searchText : ℕ → Answer Verdict → List ℕ → List ℕ
+searchText members (value (found amount size)) words = groupLine amount size words members
+searchText members (value none) words = []
+searchText members (refusal number place) words = refusedLine number place
+
+-- a pass where there is no other line
+abbrev pub orPass : List ℕ → List ℕ
+orPass [] = ascii "audit pass\n"
+orPass (byte ∷ rest) = byte ∷ rest
+
+-- the audit where there are this many members
+abbrev pub auditText : ℕ → Answer ℤ → Answer Verdict → List ℕ → List ℕ
+auditText members total search words = orPass (totalText total ++ searchText members search words)
 
 abbrev pub shortLine : ℕ → ℕ → ℕ → List ℕ
 shortLine number place shortfall =

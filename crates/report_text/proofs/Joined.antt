@@ -6,23 +6,24 @@ use lib.IntN.{ℤ}
 use Rattle.game.specs.Network.{memberCount, members}
 use Rattle.game.specs.Tree.{Tree, network}
 use Rattle.answer_forms.specs.Answer.{Answer}
-use Rattle.answers.specs.Audit.{Verdict, auditAnswer, auditWords}
+use Rattle.answers.specs.Audit.{Verdict, totalAnswer, searchAnswer, searchWords}
 use Rattle.answers.specs.Level.{LevelAnswer, levelAnswer, levelList}
 use Rattle.answers.specs.ByArc.{byArcList}
 use Rattle.buffer.specs.Put.{Put}
 use Rattle.buffer.proofs.Pieces.{put-then}
-use Rattle.report_lines.specs.Lines.{auditLine, levelLine, memberLines}
+use Rattle.report_lines.specs.Lines.{auditText, levelLine, memberLines}
 use Rattle.report_text.specs.Report.{blank, costText, treeText, splitText}
 
 module _ (t : Tree) (proposed : List ℤ) {a b c : List ℕ} {at e f n : ℕ} (n-is : n ≡ memberCount (network t)) where
-  pub tree-joined : {answer : Answer Verdict} {words : List ℕ}
-      → answer ≡ auditAnswer t proposed
-      → words ≡ auditWords t proposed
+  pub tree-joined : {total : Answer ℤ} {search : Answer Verdict} {words : List ℕ}
+      → total ≡ totalAnswer t proposed
+      → search ≡ searchAnswer t proposed
+      → words ≡ searchWords t proposed
       → Put a at (costText t) b e
-      → Put b e (auditLine n answer words) c f
+      → Put b e (auditText n total search words) c f
       → Put a at (treeText t proposed) c f
   unfolding treeText
-  tree-joined answer-is words-is p q = put-then p (rw (n-is, answer-is, words-is) at q)
+  tree-joined total-is search-is words-is p q = put-then p (rw (n-is, total-is, search-is, words-is) at q)
 
   -- the lists before the splits are all 0
   pub split-joined : (caps : List ℕ) {level : LevelAnswer} {vertices by-arc shares by-arc₀ shares₀ : List ℕ}

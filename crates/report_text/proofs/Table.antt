@@ -10,7 +10,7 @@ use Rattle.game.specs.Search.{groups, best, named}
 use Rattle.game.specs.Level.{firstLeast, units, arcsDown}
 use Rattle.game.specs.ByArc.{giveArc, byArcDown}
 use Rattle.answers.specs.Checks.{arcByArc, treeCheck, rangeCheck}
-use Rattle.answers.specs.Audit.{verdict, auditAnswer, auditWords}
+use Rattle.answers.specs.Audit.{totalAnswer, searchAnswer, searchWords}
 use Rattle.answers.specs.Level.{shortArc, levelAnswer, levelList}
 use Rattle.answers.specs.ByArc.{byArcList}
 use Rattle.numbers.specs.Signed.{signed64, bits64}
@@ -27,9 +27,19 @@ use Rattle.report_text.specs.Table.{ReportTable}
 pub table : ReportTable
 unfolding climb used groupCost sumBelow wholeCost membersTo hasChild deadEnds countedCosts bit size wordsOf
     pays groups best named
-    firstLeast units arcsDown giveArc byArcDown arcByArc treeCheck rangeCheck verdict auditAnswer auditWords
+    firstLeast units arcsDown giveArc byArcDown arcByArc treeCheck rangeCheck totalAnswer searchAnswer searchWords
     shortArc levelAnswer levelList byArcList littleEndian signed64 inBytes bits64 entries
     arcRow memberRow trailer arcOffset memberOffset jobArcs jobMembers version formCheck fillersFrom sharesCheck
     valuesCheck jobCheck decimalIn decimal signedDecimal
     groupText memberLines treeText splitText reportText
-table = record { T-report = refl; refused-report = refl }
+table =
+    record {
+      T-report = refl;
+      off-report = refl;
+      T-7-5-4 = refl;
+      T-less-1-13-4 = refl;
+      T-9-9-9 = refl;
+      T-below-0 = refl;
+      W-7-7-6 = refl;
+      refused-report = refl;
+    }

@@ -6,12 +6,12 @@ use lib.IntN.{ℤ}
 use Rattle.game.specs.Network.{wholeCost, memberCount, members}
 use Rattle.game.specs.Tree.{Tree, network}
 use Rattle.answer_forms.specs.Answer.{Check, accepted, refused}
-use Rattle.answers.specs.Audit.{auditAnswer, auditWords}
+use Rattle.answers.specs.Audit.{totalAnswer, searchAnswer, searchWords}
 use Rattle.answers.specs.Level.{levelAnswer, levelList}
 use Rattle.answers.specs.ByArc.{byArcList}
 use Rattle.job_bytes.specs.Format.{jobCaps, jobProposals}
 use Rattle.job.specs.JobCheck.{jobCheck, jobTree}
-use Rattle.report_lines.specs.Lines.{refusedLine, costLine, auditLine, levelLine, memberLines}
+use Rattle.report_lines.specs.Lines.{refusedLine, costLine, auditText, levelLine, memberLines}
 
 -- a list to be written, with one entry a member
 abbrev pub blank : Tree → List ℕ
@@ -24,7 +24,8 @@ costText t = costLine (wholeCost (network t)) (memberCount (network t))
 -- the lines on the tree and the proposal
 unfoldable pub treeText : Tree → List ℤ → List ℕ
 treeText t proposed =
-    costText t ++ auditLine (memberCount (network t)) (auditAnswer t proposed) (auditWords t proposed)
+    costText t
+    ++ auditText (memberCount (network t)) (totalAnswer t proposed) (searchAnswer t proposed) (searchWords t proposed)
 
 -- the lines on the two splits
 unfoldable pub splitText : Tree → List ℕ → List ℤ → List ℕ

@@ -53,12 +53,9 @@ fn put_tree(
     let mut needs = [0u64; MOST_ARCS];
     let arcs = parents.len();
     let next = put_cost(parents, costs, marks, &mut needs[0..arcs], out, at);
-    put_audit(
-        out,
-        next,
-        proposed.len(),
-        engine::audit(parents, costs, marks, proposed),
-    )
+    let total = engine::check_total(parents, costs, marks, proposed);
+    let searched = engine::find_group(parents, costs, marks, proposed);
+    put_audit(out, next, proposed.len(), total, searched)
 }
 
 // The lines on the two splits. The three lists are room for one entry a member, all 0.

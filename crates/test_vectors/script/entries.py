@@ -21,6 +21,7 @@ from rules import (
     member_count,
     member_vertices,
     ones,
+    overpayment,
     whole_cost,
     words_of,
 )
@@ -71,15 +72,20 @@ def answer_group(tree, words):
     return f"size {len(inside)} cost {group_cost(tree, inside)}"
 
 
-def answer_audit(tree, proposal, words):
+def answer_total(tree, proposal):
     check_tree(tree)
     check_proposal(member_count(tree), proposal)
     difference = sum(proposal) - whole_cost(tree)
-    if difference != 0:
-        return f"total {difference}"
+    assert difference == overpayment(tree, proposal, range(len(proposal))), (tree, proposal)
+    return f"total {difference}"
+
+
+def answer_search(tree, proposal, words):
+    check_tree(tree)
+    check_proposal(member_count(tree), proposal)
     over, group = best_group(tree, proposal)
     if over == 0:
-        return "pass"
+        return "no group"
     words[:] = words_of(group)
     return f"group {over} of {len(group)}"
 
@@ -125,7 +131,8 @@ ENTRIES = {
     "members": answer_members,
     "needs": answer_needs,
     "group": answer_group,
-    "audit": answer_audit,
+    "total": answer_total,
+    "search": answer_search,
     "shares": answer_shares,
     "level": answer_level,
     "caps": answer_caps,
@@ -203,7 +210,7 @@ def answer(case):
     beside = []
     if command in WRITING:
         beside = [[UNTOUCHED] * fields.pop()]
-    if command == "audit":
+    if command == "search":
         beside = [[0] * WORDS]
     try:
         line = ENTRIES[command](*fields, *beside)

@@ -15,7 +15,7 @@ from networks import (
     random_tree,
     star,
 )
-from trees import LARGE, every_entry
+from trees import LARGE, every_entry, proposed
 from levels import level_of
 from divisions import by_arc_of
 
@@ -74,17 +74,17 @@ def spare_networks():
         for words in all_groups(count):
             yield "group", tree, words
         for _ in range(5):
-            yield "audit", tree, random_proposal(dice, tree)
+            yield from proposed(tree, random_proposal(dice, tree))
             yield level_of(tree, random_caps(dice, tree))
         paid = random_payers(dice, tree)
-        yield "audit", tree, paid
+        yield from proposed(tree, paid)
         # arcs without users taken into the total
-        yield "audit", tree, [paid[0] + sum(tree.costs) - whole_cost(tree), *paid[1:]]
+        yield from proposed(tree, [paid[0] + sum(tree.costs) - whole_cost(tree), *paid[1:]])
         # every dead end taken for a member
         ends = sum(dead_end_marks(tree.parents))
         yield "members", tree, ends
         yield "group", tree, words_of(range(ends))
-        yield "audit", tree, [0] * ends
+        yield from proposed(tree, [0] * ends)
         yield level_of(tree, [MOST_CAP] * ends)
         yield "level", tree, [MOST_CAP] * count, ends
         yield "byarc", tree, ends
@@ -97,7 +97,7 @@ def many_marks():
     ones_each, last = [1] * 1023, [0] * 1022 + [1]
     tree = Tree(star(1023), [MOST_COST] * 100 + [1] * 922 + [7], last)
     yield from every_entry(tree)
-    yield "audit", tree, [7]
+    yield from proposed(tree, [7])
     for tree in (Tree(broom(1023), ones_each, last), spare_run(1023)):
         yield "needs", tree, 1023
         yield level_of(tree, [MOST_CAP])
@@ -149,7 +149,7 @@ def random_marks():
         yield from every_entry(tree, random_group(dice, count))
         yield "group", tree, random_group(dice, count + 1)
         for _ in range(2):
-            yield "audit", tree, random_proposal(dice, tree)
+            yield from proposed(tree, random_proposal(dice, tree))
             yield level_of(tree, random_caps(dice, tree))
         if turn % 3 == 0:
             yield from every_entry(badly_marked(dice, tree), random_group(dice, count))
@@ -157,6 +157,6 @@ def random_marks():
         tree = thinned(dice, random_tree(dice, arcs))
         yield "needs", tree, arcs
         yield "group", tree, random_group(dice, member_count(tree))
-        yield "audit", tree, random_proposal(dice, tree)
+        yield from proposed(tree, random_proposal(dice, tree))
         yield level_of(tree, random_caps(dice, tree))
         yield by_arc_of(tree)

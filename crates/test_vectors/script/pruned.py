@@ -5,7 +5,7 @@ from rules import Refusal, all_marked, arc_needs, arc_users, cap_sums, check_tre
 from entries import answer
 
 # the commands whose answers hold no vertex, and no arc but that of refusal 9
-COMPARED = {"check", "count", "group", "audit", "level", "byarc"}
+COMPARED = {"check", "count", "group", "total", "search", "level", "byarc"}
 
 
 def pruned(tree):

@@ -177,6 +177,11 @@ def group_cost(tree, group):
     return sum(tree.costs[arc - 1] for arc in used)
 
 
+def overpayment(tree, proposal, group):
+    """What the members of a group pay less what its own network costs."""
+    return sum(proposal[j] for j in group) - group_cost(tree, group)
+
+
 MOST_TRIED = 12
 
 
@@ -184,7 +189,7 @@ def best_of_all(tree, proposal):
     """The greatest overpayment, with the smallest group that reaches it: every group is tried."""
     members = range(len(proposal))
     tried = [
-        (sum(proposal[j] for j in group) - group_cost(tree, group), list(group))
+        (overpayment(tree, proposal, group), list(group))
         for size in range(len(proposal) + 1)
         for group in combinations(members, size)
     ]
@@ -211,7 +216,8 @@ def best_from_leaves(tree, proposal):
 
 
 def best_group(tree, proposal):
-    best = best_from_leaves(tree, proposal)
+    over, group = best_from_leaves(tree, proposal)
+    assert over == overpayment(tree, proposal, group), (tree, proposal)
     if len(proposal) <= MOST_TRIED:
-        assert best == best_of_all(tree, proposal), (tree, proposal)
-    return best
+        assert (over, group) == best_of_all(tree, proposal), (tree, proposal)
+    return over, group

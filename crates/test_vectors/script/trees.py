@@ -5,6 +5,11 @@ from rules import MOST_COST, Tree, all_marked, member_count, words_of
 from networks import T, T_SPARE, U, W, all_groups, chain, random_group, random_proposal, random_tree, star
 
 
+def proposed(tree, proposal):
+    """A case of each command that takes a tree and a proposal."""
+    return [("total", tree, proposal), ("search", tree, proposal)]
+
+
 def every_entry(tree, words=words_of([0])):
     """A case of each command, with output lists, a proposal and caps of the right length."""
     count = member_count(tree)
@@ -15,7 +20,7 @@ def every_entry(tree, words=words_of([0])):
         ("members", tree, count),
         ("needs", tree, arcs),
         ("group", tree, words),
-        ("audit", tree, [0] * count),
+        *proposed(tree, [0] * count),
         ("shares", count, [0] * count),
         ("level", tree, [sum(tree.costs)] * count, count),
         ("caps", count, [0] * count),
@@ -212,4 +217,4 @@ def large_trees():
         yield "group", tree, words_of(range(count))
         yield "group", tree, random_group(dice, count)
         for _ in range(2):
-            yield "audit", tree, random_proposal(dice, tree)
+            yield from proposed(tree, random_proposal(dice, tree))

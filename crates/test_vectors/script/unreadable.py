@@ -1,7 +1,7 @@
 """Lines that are no case."""
 from entries import shown
 from networks import star
-from audits import GREATEST, LEAST
+from proposals import GREATEST, LEAST
 
 UNREADABLE = [
     "",
@@ -43,17 +43,24 @@ UNREADABLE = [
     "group 0 1 1 " + shown([0] * 17),
     "group 0 1 1 " + shown([0] * 15 + [2**64]),
     "group 0 1 x " + shown([0] * 16),
-    "audit 0 1 1",
-    "audit 0 1 1 1 1",
-    "audit 0 1 1 " + str(GREATEST + 1),
-    "audit 0 1 1 " + str(LEAST - 1),
-    "audit 0 1 1 -" + str(2**64),
-    "audit 0 1 1 --1",
-    "audit 0 1 1 1-",
-    "audit 0 1 1 -,1",
-    "audit 0 1 1 1,-",
-    "audit 0 1 1 +1",
-    "audit 0 1 1 " + shown([0] * 1101),
+    "total 0 1 1",
+    "total 0 1 1 1 1",
+    "total 0 1 x 1",
+    "total 0 1 1 " + str(GREATEST + 1),
+    "total 0 1 1 " + str(LEAST - 1),
+    "total 0 1 1 -" + str(2**64),
+    "total 0 1 1 --1",
+    "total 0 1 1 1-",
+    "total 0 1 1 " + shown([0] * 1101),
+    "search 0 1 1",
+    "search 0 1 1 1 1",
+    "search 0 1 x 1",
+    "search 0 1 1 " + str(GREATEST + 1),
+    "search 0 1 1 " + str(LEAST - 1),
+    "search 0 1 1 -,1",
+    "search 0 1 1 1,-",
+    "search 0 1 1 +1",
+    "search 0 1 1 " + shown([0] * 1101),
     "shares 1",
     "shares 1 1 1",
     "shares 1101 1",

@@ -5,15 +5,15 @@ use mathlib.Core.List.{List, [], _∷_}
 use lib.ListN.{getD, length}
 use Rattle.test_lines.specs.Fields.{First, fieldsOf}
 use Rattle.test_vectors.specs.declared.command.Command.{Command}
-use Rattle.test_vectors.specs.declared.command.Command.the-variants.{Check, Count, Members, Needs, Group, Audit}
-use Rattle.test_vectors.specs.declared.command.Command.the-variants.{Shares, Level, Caps, ByArc, DeadEnds}
+use Rattle.test_vectors.specs.declared.command.Command.the-variants.{Check, Count, Members, Needs, Group, Total}
+use Rattle.test_vectors.specs.declared.command.Command.the-variants.{Search, Shares, Level, Caps, ByArc, DeadEnds}
 use Rattle.test_vectors.specs.declared.command.Command.the-variants.{CapSums, Job, Write, Unknown}
 
 -- the commands, in the order of their names
 abbrev pub commands : List Command
 commands =
-    Check ∷ Count ∷ Members ∷ Needs ∷ Group ∷ Audit ∷ Shares ∷ Level ∷ Caps ∷ ByArc ∷ DeadEnds ∷ CapSums ∷ Job
-    ∷ Write ∷ []
+    Check ∷ Count ∷ Members ∷ Needs ∷ Group ∷ Total ∷ Search ∷ Shares ∷ Level ∷ Caps ∷ ByArc ∷ DeadEnds ∷ CapSums
+    ∷ Job ∷ Write ∷ []
 
 -- how many fields a command's line has; none is right for an unknown command
 abbrev pub fieldCount : Command → ℕ
@@ -22,7 +22,8 @@ fieldCount Count = 4
 fieldCount Members = 5
 fieldCount Needs = 5
 fieldCount Group = 5
-fieldCount Audit = 5
+fieldCount Total = 5
+fieldCount Search = 5
 fieldCount Shares = 3
 fieldCount Level = 6
 fieldCount Caps = 3

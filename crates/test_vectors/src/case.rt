@@ -79,14 +79,21 @@ fn group(parents: &[u16], costs: &[u32], marks: &[u16], words: &[u8]) {
     print::group_cost(engine::group_cost(parents, costs, marks, group));
 }
 
-fn audit(parents: &[u16], costs: &[u32], marks: &[u16], shares: &[u8]) {
+fn on_proposal(c: Command, parents: &[u16], costs: &[u32], marks: &[u16], proposal: &[i64]) {
+    match c {
+        Command::Total => print::total_found(engine::check_total(parents, costs, marks, proposal)),
+        _ => print::searched(engine::find_group(parents, costs, marks, proposal)),
+    }
+}
+
+fn with_proposal(c: Command, parents: &[u16], costs: &[u32], marks: &[u16], shares: &[u8]) {
     let mut proposal = [0i64; MOST];
     let found = list::read_signed(shares, &mut proposal);
     if !found.readable {
         return print::bad_case();
     }
     let n = found.count;
-    print::audited(engine::audit(parents, costs, marks, &proposal[0..n]));
+    on_proposal(c, parents, costs, marks, &proposal[0..n]);
 }
 
 // As list_members.
@@ -173,7 +180,8 @@ fn on_tree(
         Command::Members => members(parents, costs, marks, after_tree),
         Command::Needs => needs(parents, costs, marks, after_tree),
         Command::Group => group(parents, costs, marks, after_tree),
-        Command::Audit => audit(parents, costs, marks, after_tree),
+        Command::Total => with_proposal(c, parents, costs, marks, after_tree),
+        Command::Search => with_proposal(c, parents, costs, marks, after_tree),
         Command::Level => with_caps(c, parents, costs, marks, after_tree, last),
         Command::ByArc => by_arc(parents, costs, marks, after_tree),
         Command::CapSums => with_caps(c, parents, costs, marks, after_tree, last),

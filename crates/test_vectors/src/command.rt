@@ -10,7 +10,8 @@ pub enum Command {
     Members,
     Needs,
     Group,
-    Audit,
+    Total,
+    Search,
     Shares,
     Level,
     Caps,
@@ -24,12 +25,12 @@ pub enum Command {
 
 pub fn named(name: &[u8]) -> Command
     ensures { λ r. ⌜ Named
-        (ascii "check count members needs group audit shares level caps byarc deadends capsums job write")
+        (ascii "check count members needs group total search shares level caps byarc deadends capsums job write")
         (now (name .entry)) r ⌝ }
 {
     match field::find(
-        b"check count members needs group audit shares level caps byarc deadends capsums job write",
-        14,
+        b"check count members needs group total search shares level caps byarc deadends capsums job write",
+        15,
         name,
     ) {
         0 => Command::Check,
@@ -37,15 +38,16 @@ pub fn named(name: &[u8]) -> Command
         2 => Command::Members,
         3 => Command::Needs,
         4 => Command::Group,
-        5 => Command::Audit,
-        6 => Command::Shares,
-        7 => Command::Level,
-        8 => Command::Caps,
-        9 => Command::ByArc,
-        10 => Command::DeadEnds,
-        11 => Command::CapSums,
-        12 => Command::Job,
-        13 => Command::Write,
+        5 => Command::Total,
+        6 => Command::Search,
+        7 => Command::Shares,
+        8 => Command::Level,
+        9 => Command::Caps,
+        10 => Command::ByArc,
+        11 => Command::DeadEnds,
+        12 => Command::CapSums,
+        13 => Command::Job,
+        14 => Command::Write,
         _ => Command::Unknown,
     }
 }
@@ -60,7 +62,8 @@ pub fn fields(c: Command) -> usize
         Command::Members => 5,
         Command::Needs => 5,
         Command::Group => 5,
-        Command::Audit => 5,
+        Command::Total => 5,
+        Command::Search => 5,
         Command::Shares => 3,
         Command::Level => 6,
         Command::Caps => 3,

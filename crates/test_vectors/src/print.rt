@@ -1,13 +1,14 @@
 // Printing the answers of the entries.
-use engine::AuditFound;
-use engine::Audited;
 use engine::CapSumsFound;
 use engine::Checked;
 use engine::GroupCost;
+use engine::GroupFound;
 use engine::LevelSplit;
 use engine::MemberCount;
 use engine::NeedsFound;
 use engine::Refusal;
+use engine::Searched;
+use engine::TotalFound;
 use job::JobLength;
 use test_lines::print::labelled;
 use test_lines::print::labelled_signed;
@@ -65,23 +66,29 @@ pub fn group_cost(g: GroupCost) {
     }
 }
 
-fn audit_found(f: AuditFound) {
+pub fn total_found(f: TotalFound) {
     match f {
-        AuditFound::WrongTotal(difference) => labelled_signed(b"total ", difference),
-        AuditFound::Objection { amount, size } => {
-            labelled(b"group ", amount);
-            labelled(b" of ", size as u64);
-        }
-        AuditFound::Pass => text(b"pass"),
-        AuditFound::Refused(r) => refusal(r),
+        TotalFound::Difference(difference) => labelled_signed(b"total ", difference),
+        TotalFound::Refused(r) => refusal(r),
     }
 }
 
-// The words are printed with every answer: they are 0 except in an objection.
-pub fn audited(a: Audited) {
-    let answer = a.answer;
-    let group = a.group;
-    audit_found(answer);
+fn group_found(f: GroupFound) {
+    match f {
+        GroupFound::Group { amount, size } => {
+            labelled(b"group ", amount);
+            labelled(b" of ", size as u64);
+        }
+        GroupFound::NoGroup => text(b"no group"),
+        GroupFound::Refused(r) => refusal(r),
+    }
+}
+
+// The words are printed with every answer: they are 0 except where a group is found.
+pub fn searched(s: Searched) {
+    let answer = s.answer;
+    let group = s.group;
+    group_found(answer);
     list(&group);
 }
 

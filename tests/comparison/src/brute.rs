@@ -71,6 +71,17 @@ pub fn group_costs(tree: &Tree) -> Vec<u64> {
     (0..1 << tree.members.len()).map(cost).collect()
 }
 
+/// What a group pays less its cost.
+fn overpayment(tree: &Tree, costs: &[u64], proposal: &[i64], bits: usize) -> i64 {
+    let paid: i64 = group(tree, bits).iter().map(|&j| proposal[j]).sum();
+    paid - costs[bits] as i64
+}
+
+/// The overpayment of all members together, who cost the whole cost.
+pub fn difference(tree: &Tree, costs: &[u64], proposal: &[i64]) -> i64 {
+    overpayment(tree, costs, proposal, costs.len() - 1)
+}
+
 /// The greatest overpayment over all groups, and the groups with fewest
 /// members that reach it.
 pub fn greatest_overpayment(
@@ -78,9 +89,8 @@ pub fn greatest_overpayment(
     costs: &[u64],
     proposal: &[i64],
 ) -> (u64, Vec<Vec<usize>>) {
-    let paid = |bits: usize| -> i64 { group(tree, bits).iter().map(|&j| proposal[j]).sum() };
     let over: Vec<i64> = (0..costs.len())
-        .map(|g| paid(g) - costs[g] as i64)
+        .map(|g| overpayment(tree, costs, proposal, g))
         .collect();
     let greatest = *over.iter().max().unwrap();
     let reach = || (0..over.len()).filter(|&g| over[g] == greatest);

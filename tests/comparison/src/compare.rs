@@ -3,7 +3,7 @@
 
 use crate::ffi::{self, *};
 use crate::lent::Lent;
-use crate::reference::{self, Answer, Refusal, Tree, Verdict};
+use crate::reference::{self, Answer, Refusal, Tree};
 use crate::tally::Tally;
 
 fn check(answer: Answer<()>) -> ZilqodurCheck {
@@ -28,6 +28,38 @@ fn members(answer: Answer<usize>) -> ZilqodurMembers {
             members: 0,
         },
     }
+}
+
+fn total(answer: Answer<i64>) -> ZilqodurTotal {
+    match answer {
+        Ok(difference) => ZilqodurTotal {
+            verdict: if difference == 0 { 1 } else { 2 },
+            difference,
+            ..Default::default()
+        },
+        Err(r) => ZilqodurTotal {
+            refusal: r.number,
+            place: r.place,
+            ..Default::default()
+        },
+    }
+}
+
+fn search(answer: Answer<Option<(u64, Vec<usize>)>>) -> ZilqodurSearch {
+    let mut expected = ZilqodurSearch::default();
+    match answer {
+        Ok(None) => expected.verdict = 1,
+        Ok(Some((amount, group))) => {
+            expected.verdict = 2;
+            expected.amount = amount;
+            expected.size = group.len();
+            group
+                .iter()
+                .for_each(|j| expected.group[j / 64] |= 1 << (j % 64));
+        }
+        Err(r) => (expected.refusal, expected.place) = (r.number, r.place),
+    }
+    expected
 }
 
 /// The list after a call: what is written, or on a refusal the list as lent.
@@ -179,29 +211,26 @@ impl Network {
         tally.case("group_cost", expected.refusal, [given, expected], lists);
     }
 
-    pub fn audit(&self, tally: &mut Tally, proposal: &[i64]) {
+    /// Answers what is expected.
+    pub fn check_total(&self, tally: &mut Tally, proposal: &[i64]) -> ZilqodurTotal {
         let (p, c, m) = self.lend();
         let lent = Lent::new(proposal);
-        let given = ffi::audit(p.list(), c.list(), m.list(), lent.list());
-        let mut expected = ZilqodurAudit::default();
-        match reference::audit(self.tree(), proposal) {
-            Ok(Verdict::Pass) => expected.verdict = 1,
-            Ok(Verdict::WrongTotal(difference)) => {
-                expected.verdict = 2;
-                expected.difference = difference;
-            }
-            Ok(Verdict::Objection(amount, group)) => {
-                expected.verdict = 3;
-                expected.amount = amount;
-                expected.size = group.len();
-                group
-                    .iter()
-                    .for_each(|j| expected.group[j / 64] |= 1 << (j % 64));
-            }
-            Err(r) => (expected.refusal, expected.place) = (r.number, r.place),
-        }
+        let given = ffi::check_total(p.list(), c.list(), m.list(), lent.list());
+        let expected = total(reference::check_total(self.tree(), proposal));
         let lists = self.kept(&p, &c, &m) && lent.holds(proposal);
-        tally.case("audit", expected.refusal, [given, expected], lists);
+        tally.case("check_total", expected.refusal, [given, expected], lists);
+        expected
+    }
+
+    /// Answers what is expected.
+    pub fn find_group(&self, tally: &mut Tally, proposal: &[i64]) -> ZilqodurSearch {
+        let (p, c, m) = self.lend();
+        let lent = Lent::new(proposal);
+        let given = ffi::find_group(p.list(), c.list(), m.list(), lent.list());
+        let expected = search(reference::find_group(self.tree(), proposal));
+        let lists = self.kept(&p, &c, &m) && lent.holds(proposal);
+        tally.case("find_group", expected.refusal, [given, expected], lists);
+        expected
     }
 
     pub fn list_cap_sums(&self, tally: &mut Tally, caps: &[u64], out: &[u64]) {

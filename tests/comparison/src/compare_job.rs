@@ -205,7 +205,8 @@ pub fn write_job(tally: &mut Tally, job: &Job, out: &[u8]) {
 static UNWRITTEN: LazyLock<Vec<u8>> =
     LazyLock::new(|| (0..REPORT_ROOM).map(|i| 128 + (i % 127) as u8).collect());
 
-pub fn report(tally: &mut Tally, bytes: &[u8]) {
+/// Answers the text that is expected.
+pub fn report(tally: &mut Tally, bytes: &[u8]) -> String {
     let text = report::text(bytes);
     let (lent, mut out) = (Lent::new(bytes), Lent::new(&UNWRITTEN));
     let given = ffi::report(lent.list(), out.list_mut().try_into().unwrap());
@@ -217,4 +218,5 @@ pub fn report(tally: &mut Tally, bytes: &[u8]) {
     front(&mut written, text.as_bytes());
     let lists = lent.holds(bytes) && out.holds(&written);
     tally.case("report", 0, [given, expected], lists);
+    text
 }

@@ -33,15 +33,24 @@ pub struct ZilqodurGroup {
     pub cost: u64,
 }
 
-/// The verdict is 0 in a refusal, 1 for a pass, 2 for a wrong total, 3 for an
-/// objection.
+/// The verdict is 0 in a refusal, 1 where the shares add up, 2 where they do not.
 #[repr(C)]
 #[derive(Clone, Copy, Debug, Default, PartialEq)]
-pub struct ZilqodurAudit {
+pub struct ZilqodurTotal {
     pub refusal: u32,
     pub place: usize,
     pub verdict: u32,
     pub difference: i64,
+}
+
+/// The verdict is 0 in a refusal, 1 where there is no group, 2 where one is
+/// found.
+#[repr(C)]
+#[derive(Clone, Copy, Debug, Default, PartialEq)]
+pub struct ZilqodurSearch {
+    pub refusal: u32,
+    pub place: usize,
+    pub verdict: u32,
     pub amount: u64,
     pub size: usize,
     pub group: [u64; 16],
@@ -152,7 +161,7 @@ unsafe extern "C" {
         marks_count: usize,
         group: *const [u64; 16],
     ) -> ZilqodurGroup;
-    fn zilqodur_audit(
+    fn zilqodur_check_total(
         parents: *const u16,
         parents_count: usize,
         costs: *const u32,
@@ -161,7 +170,17 @@ unsafe extern "C" {
         marks_count: usize,
         proposal: *const i64,
         proposal_count: usize,
-    ) -> ZilqodurAudit;
+    ) -> ZilqodurTotal;
+    fn zilqodur_find_group(
+        parents: *const u16,
+        parents_count: usize,
+        costs: *const u32,
+        costs_count: usize,
+        marks: *const u16,
+        marks_count: usize,
+        proposal: *const i64,
+        proposal_count: usize,
+    ) -> ZilqodurSearch;
     fn zilqodur_list_cap_sums(
         parents: *const u16,
         parents_count: usize,
@@ -344,9 +363,34 @@ pub fn group_cost(
     }
 }
 
-pub fn audit(parents: &[u16], costs: &[u32], marks: &[u16], proposal: &[i64]) -> ZilqodurAudit {
+pub fn check_total(
+    parents: &[u16],
+    costs: &[u32],
+    marks: &[u16],
+    proposal: &[i64],
+) -> ZilqodurTotal {
     unsafe {
-        zilqodur_audit(
+        zilqodur_check_total(
+            parents.as_ptr(),
+            parents.len(),
+            costs.as_ptr(),
+            costs.len(),
+            marks.as_ptr(),
+            marks.len(),
+            proposal.as_ptr(),
+            proposal.len(),
+        )
+    }
+}
+
+pub fn find_group(
+    parents: &[u16],
+    costs: &[u32],
+    marks: &[u16],
+    proposal: &[i64],
+) -> ZilqodurSearch {
+    unsafe {
+        zilqodur_find_group(
             parents.as_ptr(),
             parents.len(),
             costs.as_ptr(),

@@ -254,6 +254,26 @@ fn settle(rng: &mut Rng, list: &mut [i64], whole: u64) {
     }
 }
 
+/// Changes the total, within the range: one share, or each of them upward or
+/// downward by the same or by any amount.
+fn unsettle(rng: &mut Rng, list: &mut [i64], whole: u64) {
+    let most = AMOUNT as i64;
+    let step = rng.pick(&[1, 3, 1_000, whole]);
+    let kind = rng.below(5);
+    let one = rng.below(list.len());
+    for (j, share) in list.iter_mut().enumerate() {
+        let change = match kind {
+            0 if j == one => rng.pick(&[-1, 1, 1_000]),
+            0 => 0,
+            1 => step as i64,
+            2 => rng.up_to(step) as i64,
+            3 => -(step as i64),
+            _ => -(rng.up_to(step) as i64),
+        };
+        *share = (*share + change).clamp(-most, most);
+    }
+}
+
 /// A proposal in range: in the core, near it, far from it, or of a wrong total.
 pub fn proposal(rng: &mut Rng, tree: &Tree) -> Vec<i64> {
     let members = tree.members.len();
@@ -280,9 +300,8 @@ pub fn proposal(rng: &mut Rng, tree: &Tree) -> Vec<i64> {
     if kind >= 7 && !rng.one_in(3) {
         settle(rng, &mut list, tree.whole());
     }
-    if rng.one_in(6) {
-        let j = rng.below(members);
-        list[j] = (list[j] + rng.pick(&[-1, 1, 1_000])).clamp(-most, most);
+    if rng.one_in(3) {
+        unsettle(rng, &mut list, tree.whole());
     }
     list
 }

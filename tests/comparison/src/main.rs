@@ -137,11 +137,9 @@ fn compare_lists(tally: &mut Tally, rng: &mut Rng, network: &Network, tree: &Tre
     for _ in 0..times {
         network.group_cost(tally, &generate::group(rng, members));
         let mut proposal = generate::proposal(rng, tree);
-        network.audit(tally, &proposal);
-        compare::check_proposal(tally, members, &proposal);
+        compare_proposal(tally, network, members, &proposal);
         generate::damage_proposal(rng, &mut proposal);
-        network.audit(tally, &proposal);
-        compare::check_proposal(tally, members, &proposal);
+        compare_proposal(tally, network, members, &proposal);
         let mut caps = generate::caps(rng, tree);
         let length = generate::length(rng, members);
         let out = filled(rng, length, |n| n);
@@ -158,6 +156,17 @@ fn compare_lists(tally: &mut Tally, rng: &mut Rng, network: &Network, tree: &Tre
     let count = rng.pick(&[0, 1, 1_023, 1_024, 65_536 + members, usize::MAX]);
     compare::check_caps(tally, count, &vec![0; members]);
     compare::check_proposal(tally, count, &vec![0; members]);
+}
+
+/// The entries that take a proposal.
+fn compare_proposal(tally: &mut Tally, network: &Network, members: usize, proposal: &[i64]) {
+    let total = network.check_total(tally, proposal);
+    let search = network.find_group(tally, proposal);
+    if total.refusal == 0 {
+        let found = (search.size, proposal.len());
+        rare::note_proposal(tally, rare::ARCHIVE, total.difference, found);
+    }
+    compare::check_proposal(tally, members, proposal);
 }
 
 /// The job reader and the report on a valid job, on damaged copies and on arbitrary bytes.
@@ -188,14 +197,21 @@ fn compare_writer(tally: &mut Tally, rng: &mut Rng, job: &Job, length: usize) {
 /// The entries that read or write a job on stars, at the greatest length and one row or byte past it.
 fn compare_longest(tally: &mut Tally) {
     let mut rng = Rng::new(tally.seed);
-    for (arcs, note) in [(ARCS, 255), (ARCS, 256), (ARCS + 1, 0), (ARCS + 1, 231)] {
+    let most = reference::AMOUNT as i64;
+    for (arcs, note, share) in [
+        (ARCS, 255, -most),
+        (ARCS, 255, most),
+        (ARCS, 256, most),
+        (ARCS + 1, 0, most),
+        (ARCS + 1, 231, most),
+    ] {
         let job = Job {
             note: vec![0xFF; note],
             parents: vec![0; arcs],
             fillers: vec![0; arcs],
             costs: vec![reference::COST; arcs],
             caps: vec![reference::AMOUNT; arcs],
-            proposals: vec![-(reference::AMOUNT as i64); arcs],
+            proposals: vec![share; arcs],
         };
         for _ in 0..20 {
             compare_job(tally, &mut rng, &job.write());
@@ -213,7 +229,8 @@ fn compare_job(tally: &mut Tally, rng: &mut Rng, bytes: &[u8]) {
         proposals: filled(rng, proposals, |n| n as i64),
     };
     compare_job::read_job(tally, bytes, lists);
-    compare_job::report(tally, bytes);
+    let text = compare_job::report(tally, bytes);
+    rare::note_report(tally, &text);
 }
 
 /// The reference against the definitions, where the network is small.
@@ -221,23 +238,20 @@ fn compare_definitions(tally: &mut Tally, rng: &mut Rng, tree: &Tree) {
     if tree.arcs() > 40 || tree.members.len() > 10 {
         return;
     }
+    let costs = brute::group_costs(tree);
+    for _ in 0..3 {
+        let proposal = generate::proposal(rng, tree);
+        compare_judgement(tally, tree, &costs, &proposal);
+    }
     let mut case = |name, agree| tally.case(name, 0, [agree, true], true);
     case(
         "definition of the whole cost",
         brute::whole(tree) == tree.whole(),
     );
     case("definition of needs", brute::needs(tree) == tree.needs());
-    let costs = brute::group_costs(tree);
     let right = |g: usize| tree.group_cost(&brute::group(tree, g)) == costs[g];
     case("definition of group costs", (0..costs.len()).all(right));
     for _ in 0..3 {
-        let proposal = generate::proposal(rng, tree);
-        let (amount, groups) = brute::greatest_overpayment(tree, &costs, &proposal);
-        let (greatest, smallest) = tree.greatest_overpayment(&proposal);
-        case(
-            "definition of the audit",
-            greatest == amount && groups == [smallest],
-        );
         let caps = generate::caps(rng, tree);
         case(
             "definition of the cap sums",
@@ -259,4 +273,22 @@ fn compare_definitions(tally: &mut Tally, rng: &mut Rng, tree: &Tree) {
             brute::level(tree, &caps) == shares,
         );
     }
+}
+
+/// The total and the group search, on a proposal of any total.
+fn compare_judgement(tally: &mut Tally, tree: &Tree, costs: &[u64], proposal: &[i64]) {
+    let difference = brute::difference(tree, costs, proposal);
+    let (amount, groups) = brute::greatest_overpayment(tree, costs, proposal);
+    let (greatest, smallest) = tree.greatest_overpayment(proposal);
+    let found = (smallest.len(), proposal.len());
+    rare::note_proposal(tally, rare::DEFINITION, difference, found);
+    let mut case = |name, agree| tally.case(name, 0, [agree, true], true);
+    case(
+        "definition of the total",
+        tree.difference(proposal) == difference,
+    );
+    case(
+        "definition of the group search",
+        greatest == amount && groups == [smallest],
+    );
 }

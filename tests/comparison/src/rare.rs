@@ -1,5 +1,6 @@
 //! The cases that a run of all rounds is to meet: every refusal of every
-//! entry, faults that stand in one tree or one job, and trees with spare plots.
+//! entry, faults that stand in one tree or one job, trees with spare plots, and
+//! totals of every kind with and without a group.
 
 use crate::job::Fault;
 use crate::reference::{Refusal, Tree};
@@ -9,7 +10,7 @@ const TREE: [u32; 7] = [1, 2, 3, 4, 16, 17, 18];
 
 /// The refusals of each entry, with whether it has those of a tree too.
 #[rustfmt::skip]
-const REFUSALS: [(&str, bool, &[u32]); 16] = [
+const REFUSALS: [(&str, bool, &[u32]); 17] = [
     ("check_tree", true, &[]),
     ("check_caps", false, &[6, 7]),
     ("check_proposal", false, &[6, 7]),
@@ -18,7 +19,8 @@ const REFUSALS: [(&str, bool, &[u32]); 16] = [
     ("list_members", true, &[8]),
     ("list_needs", true, &[8]),
     ("group_cost", true, &[5]),
-    ("audit", true, &[6, 7]),
+    ("check_total", true, &[6, 7]),
+    ("find_group", true, &[6, 7]),
     ("list_cap_sums", true, &[6, 7, 8]),
     ("split_level", true, &[6, 7, 8, 9]),
     ("split_by_arc", true, &[8]),
@@ -56,6 +58,28 @@ const ONE: &str = "one member and other dead ends";
 const BRANCH: &str = "a branch from the source without users";
 const LAST: &str = "nobody at the last vertex";
 const RUN: &str = "a long run of arcs without users";
+
+/// What judges a proposal.
+pub const ARCHIVE: &str = "the archive";
+pub const DEFINITION: &str = "the definition";
+
+/// A proposal's total with the group that is found. Where the total is high all
+/// members together overpay, and only there can they be the group.
+#[rustfmt::skip]
+const PROPOSALS: [(&str, &str); 6] = [
+    ("right", "nobody"), ("right", "some"), ("low", "nobody"), ("low", "some"),
+    ("high", "some"), ("high", "all"),
+];
+
+const ALL_OF_MANY: &str = "a group of all members, who are more than 64";
+
+/// The lines of the audit in a report.
+const AUDITS: [&str; 4] = [
+    "audit pass",
+    "audit total",
+    "audit group",
+    "audit total, audit group",
+];
 
 fn meeting(first: u32, second: u32, at_one_arc: bool) -> String {
     let place = if at_one_arc { " at one arc" } else { "" };
@@ -112,6 +136,42 @@ pub fn note_tree(tally: &mut Tally, tree: &Tree) {
     note(RUN, longest_unused(tree) >= LONG);
 }
 
+fn judged(by: &str, total: &str, group: &str) -> String {
+    format!("total {total}, group of {group}, by {by}")
+}
+
+/// Notes the total of an accepted proposal, and how many of how many members
+/// are in the group.
+pub fn note_proposal(tally: &mut Tally, by: &str, difference: i64, found: (usize, usize)) {
+    let total = match difference {
+        ..0 => "low",
+        0 => "right",
+        _ => "high",
+    };
+    let group = match found {
+        (0, _) => "nobody",
+        (size, members) if size < members => "some",
+        _ => "all",
+    };
+    tally.met.insert(judged(by, total, group));
+    if group == "all" && found.0 > 64 {
+        tally.met.insert(ALL_OF_MANY.to_string());
+    }
+}
+
+fn reported(lines: &str) -> String {
+    format!("a report with {lines}")
+}
+
+/// Notes the lines of the audit in a report.
+pub fn note_report(tally: &mut Tally, text: &str) {
+    let lines = text.lines().filter(|line| line.starts_with("audit "));
+    let heads: Vec<String> = lines
+        .map(|line| line.split(' ').take(2).collect::<Vec<_>>().join(" "))
+        .collect();
+    tally.met.insert(reported(&heads.join(", ")));
+}
+
 /// What was to be met and was not.
 pub fn unmet(tally: &Tally) -> Vec<String> {
     let mut unmet = Vec::new();
@@ -127,8 +187,12 @@ pub fn unmet(tally: &Tally) -> Vec<String> {
     let meetings = AT_ONE_ARC.map(|(a, b)| meeting(a, b, true)).into_iter();
     let apart = APART.map(|(a, b)| meeting(a, b, false));
     let jobs = WRITER.windows(2).map(|pair| job_meeting(pair[0], pair[1]));
-    let trees = [NO_SPARE, SPARE, ONE, BRANCH, LAST, RUN].map(String::from);
+    let trees = [NO_SPARE, SPARE, ONE, BRANCH, LAST, RUN, ALL_OF_MANY].map(String::from);
+    let by = |by| PROPOSALS.map(|(total, group)| judged(by, total, group));
+    let proposals = [ARCHIVE, DEFINITION].into_iter().flat_map(by);
+    let reports = AUDITS.map(reported);
     let rare = meetings.chain(apart).chain(jobs).chain(trees);
+    let rare = rare.chain(proposals).chain(reports);
     unmet.extend(rare.filter(|case| !tally.met.contains(case)));
     unmet
 }

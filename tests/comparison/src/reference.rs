@@ -169,6 +169,11 @@ impl Tree {
         cost
     }
 
+    /// The sum of the shares less the whole cost.
+    pub fn difference(&self, proposal: &[i64]) -> i64 {
+        proposal.iter().sum::<i64>() - self.whole() as i64
+    }
+
     /// The greatest overpayment and the smallest group that reaches it.
     pub fn greatest_overpayment(&self, proposal: &[i64]) -> (u64, Vec<usize>) {
         let arcs = self.arcs();
@@ -259,13 +264,6 @@ fn raise(shares: &mut [u64], users: &[usize], caps: &[u64], units: u64) {
     }
 }
 
-#[derive(Clone, Debug, PartialEq)]
-pub enum Verdict {
-    Pass,
-    WrongTotal(i64),
-    Objection(u64, Vec<usize>),
-}
-
 /// The marks of the dead ends are at fault in no tree, so 1 to 4 are left.
 pub fn mark_dead_ends(parents: &[u16], costs: &[u32], length: usize) -> Answer<Vec<u16>> {
     let marks = dead_ends(parents);
@@ -298,17 +296,20 @@ pub fn group_cost(tree: Answer<Tree>, group: &[u64; 16]) -> Answer<(usize, u64)>
     }
 }
 
-pub fn audit(tree: Answer<Tree>, proposal: &[i64]) -> Answer<Verdict> {
+/// The sum of the shares less the whole cost.
+pub fn check_total(tree: Answer<Tree>, proposal: &[i64]) -> Answer<i64> {
     let tree = tree?;
     check_proposal(tree.members.len(), proposal)?;
-    let difference = proposal.iter().sum::<i64>() - tree.whole() as i64;
-    if difference != 0 {
-        return Ok(Verdict::WrongTotal(difference));
-    }
-    Ok(match tree.greatest_overpayment(proposal) {
-        (0, _) => Verdict::Pass,
-        (amount, group) => Verdict::Objection(amount, group),
-    })
+    Ok(tree.difference(proposal))
+}
+
+/// The greatest overpayment and the smallest group that reaches it, where that
+/// is above 0.
+pub fn find_group(tree: Answer<Tree>, proposal: &[i64]) -> Answer<Option<(u64, Vec<usize>)>> {
+    let tree = tree?;
+    check_proposal(tree.members.len(), proposal)?;
+    let found = tree.greatest_overpayment(proposal);
+    Ok(Some(found).filter(|&(amount, _)| amount > 0))
 }
 
 /// The sum of all caps, and the sum for each arc.

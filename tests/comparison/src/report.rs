@@ -1,7 +1,7 @@
 //! The report on a job (specification, §9).
 
 use crate::job::{self, Job};
-use crate::reference::{self, Verdict, ARCS};
+use crate::reference::{self, ARCS};
 
 pub fn text(bytes: &[u8]) -> String {
     match job::read(bytes, [ARCS; 4]) {
@@ -15,17 +15,25 @@ fn joined(members: &[usize]) -> String {
     numbers.join(" ")
 }
 
-fn verdict(job: &Job) -> String {
-    match reference::audit(job.tree(), &job.proposals).unwrap() {
-        Verdict::Pass => "pass".into(),
-        Verdict::WrongTotal(difference) => format!("total {difference}"),
-        Verdict::Objection(amount, group) => {
-            format!("group {amount} of {}: {}", group.len(), joined(&group))
-        }
+/// A line where the total is off, then one where a group is found; else a pass.
+fn audit(job: &Job) -> String {
+    let mut lines = String::new();
+    let difference = reference::check_total(job.tree(), &job.proposals).unwrap();
+    if difference != 0 {
+        lines += &format!("audit total {difference}\n");
     }
+    let found = reference::find_group(job.tree(), &job.proposals).unwrap();
+    if let Some((amount, group)) = found {
+        lines += &format!("audit group {amount} of {}: ", group.len());
+        lines += &format!("{}\n", joined(&group));
+    }
+    if lines.is_empty() {
+        lines += "audit pass\n";
+    }
+    lines
 }
 
-/// The third line, and what each member's line says of the level split.
+/// The level split's line, and what each member's line says of it.
 fn level(job: &Job, members: usize) -> (String, Vec<String>) {
     match reference::split_level(job.tree(), &job.caps, members) {
         Ok(shares) => ("ok".into(), shares.iter().map(u64::to_string).collect()),
@@ -42,7 +50,7 @@ fn accepted(job: &Job) -> String {
     let by_arc = tree.by_arc();
     let (line, level) = level(job, members);
     let mut text = format!("cost {} members {members}\n", tree.whole());
-    text += &format!("audit {}\nlevel {line}\n", verdict(job));
+    text += &format!("{}level {line}\n", audit(job));
     for (j, vertex) in tree.members.iter().enumerate() {
         text += &format!("{j} at {vertex}: proposed {} ", job.proposals[j]);
         text += &format!("by-arc {} level {}\n", by_arc[j], level[j]);

@@ -4,7 +4,7 @@
 use crate::compare::Network;
 use crate::compare_job;
 use crate::job::{self, Job};
-use crate::reference::{self, refuse, Answer, Refusal, Verdict};
+use crate::reference::{self, refuse, Answer, Refusal, AMOUNT};
 use crate::report;
 use crate::tally::Tally;
 use std::fmt::Debug;
@@ -60,10 +60,16 @@ fn needs(tally: &mut Tally, n: &Network, whole: u64, expected: &[u64]) {
     n.list_needs(tally, &vec![77; expected.len()]);
 }
 
-fn audit(tally: &mut Tally, n: &Network, proposal: &[i64], expected: Verdict) {
-    let found = reference::audit(n.tree(), proposal);
-    named(tally, found, Ok(expected));
-    n.audit(tally, proposal);
+/// The difference, the amount and the group, which has nobody where there is none.
+fn proposal(tally: &mut Tally, n: &Network, proposal: &[i64], expected: (i64, u64, &[usize])) {
+    let (difference, amount, group) = expected;
+    let found = reference::check_total(n.tree(), proposal);
+    named(tally, found, Ok(difference));
+    n.check_total(tally, proposal);
+    let found = reference::find_group(n.tree(), proposal);
+    let group = Some((amount, group.to_vec())).filter(|_| amount > 0);
+    named(tally, found, Ok(group));
+    n.find_group(tally, proposal);
 }
 
 fn cap_sums(tally: &mut Tally, n: &Network, caps: &[u64], total: u64, expected: &[u64]) {
@@ -90,6 +96,24 @@ fn writing(tally: &mut Tally, job: &Job, room: usize, expected: Answer<usize>) {
     compare_job::write_job(tally, job, &vec![77; room]);
 }
 
+/// The sample job with some proposal, and the lines of the audit.
+fn reporting(tally: &mut Tally, job: &Job, audit: &str) {
+    let bytes = job.write();
+    let shares = &job.proposals;
+    let lines = [
+        format!("cost 16 members 3\n{audit}level ok\n"),
+        format!("0 at 2: proposed {} by-arc 4 level 6\n", shares[0]),
+        format!("1 at 3: proposed {} by-arc 8 level 6\n", shares[1]),
+        format!("2 at 4: proposed {} by-arc 4 level 4\n", shares[2]),
+    ];
+    named(
+        tally,
+        Ok((bytes.len(), report::text(&bytes))),
+        Ok((96, lines.concat())),
+    );
+    compare_job::report(tally, &bytes);
+}
+
 pub fn compare(tally: &mut Tally) {
     let t = t_with(&[0, 1, 1, 1]);
     dead_ends(tally, &t, &[0, 1, 1, 1]);
@@ -97,10 +121,12 @@ pub fn compare(tally: &mut Tally) {
         group(tally, &t, word, Ok((size, cost)));
     }
     needs(tally, &t, 16, &[12, 1, 5, 4]);
-    audit(tally, &t, &[7, 5, 4], Verdict::Pass);
-    audit(tally, &t, &[8, 4, 4], Verdict::Objection(1, vec![0]));
-    audit(tally, &t, &[8, 4, 5], Verdict::WrongTotal(1));
-    audit(tally, &t, &[-1, 13, 4], Verdict::Objection(2, vec![1]));
+    proposal(tally, &t, &[7, 5, 4], (0, 0, &[]));
+    proposal(tally, &t, &[8, 4, 4], (0, 1, &[0]));
+    proposal(tally, &t, &[8, 4, 5], (1, 2, &[0, 2]));
+    proposal(tally, &t, &[-1, 13, 4], (0, 2, &[1]));
+    proposal(tally, &t, &[9, 9, 9], (11, 11, &[0, 1, 2]));
+    proposal(tally, &t, &[-1, -1, -1], (-19, 0, &[]));
     cap_sums(tally, &t, &[3, 9, 4], 16, &[12, 3, 9, 4]);
     level(tally, &t, &[100, 100, 100], Ok(vec![6, 6, 4]));
     level(tally, &t, &[3, 9, 4], Ok(vec![3, 9, 4]));
@@ -115,7 +141,7 @@ pub fn compare(tally: &mut Tally) {
     by_arc(tally, &u, &[4, 3]);
     level(tally, &u, &[3, 100], Ok(vec![3, 4]));
     let w = network(&[0, 1, 1, 0], &[10, 1, 1, 8], &[0, 1, 1, 1]);
-    audit(tally, &w, &[7, 7, 6], Verdict::Objection(2, vec![0, 1]));
+    proposal(tally, &w, &[7, 7, 6], (0, 2, &[0, 1]));
     spare(tally);
     limits(tally, &t);
     marks(tally);
@@ -129,9 +155,9 @@ fn spare(tally: &mut Tally) {
     needs(tally, &t, 11, &[7, 1, 0, 4]);
     group(tally, &t, 1, Ok((1, 7)));
     group(tally, &t, 1 << 2, refuse(5, 2));
-    audit(tally, &t, &[7, 4], Verdict::Pass);
-    audit(tally, &t, &[6, 5], Verdict::Objection(1, vec![1]));
-    audit(tally, &t, &[12, 4], Verdict::WrongTotal(5));
+    proposal(tally, &t, &[7, 4], (0, 0, &[]));
+    proposal(tally, &t, &[6, 5], (0, 1, &[1]));
+    proposal(tally, &t, &[12, 4], (5, 5, &[0]));
     cap_sums(tally, &t, &[3, 4], 7, &[3, 3, 0, 4]);
     level(tally, &t, &[100, 100], Ok(vec![7, 4]));
     by_arc(tally, &t, &[7, 4]);
@@ -145,6 +171,10 @@ fn limits(tally: &mut Tally, t: &Network) {
     let star = |arcs| network(&vec![0; arcs], &vec![0; arcs], &vec![1; arcs]);
     check(tally, star(1_023), Ok(()));
     check(tally, star(1_024), refuse(1, 0));
+    let all: Vec<usize> = (0..1_023).collect();
+    let (most, sum) = (AMOUNT as i64, 1_023 * AMOUNT as i64);
+    proposal(tally, &star(1_023), &[most; 1_023], (sum, sum as u64, &all));
+    proposal(tally, &star(1_023), &[-most; 1_023], (-sum, 0, &[]));
     group(tally, t, 1 << 2, Ok((1, 4)));
     group(tally, t, 1 << 3, refuse(5, 3));
 }
@@ -175,17 +205,7 @@ fn sample_job(tally: &mut Tally, t: Network) {
         caps: vec![100; 3],
         proposals: vec![8, 4, 4],
     };
-    let bytes = job.write();
-    let expected = "cost 16 members 3\naudit group 1 of 1: 0\nlevel ok\n\
-        0 at 2: proposed 8 by-arc 4 level 6\n\
-        1 at 3: proposed 4 by-arc 8 level 6\n\
-        2 at 4: proposed 4 by-arc 4 level 4\n";
-    named(
-        tally,
-        Ok((bytes.len(), report::text(&bytes))),
-        Ok((96, expected.into())),
-    );
-    compare_job::report(tally, &bytes);
+    reporting(tally, &job, "audit group 1 of 1: 0\n");
     writing(tally, &job, 96, Ok(96));
     writing(tally, &job, 97, Ok(96));
     writing(tally, &job, 95, refuse(20, 0));
@@ -193,4 +213,13 @@ fn sample_job(tally: &mut Tally, t: Network) {
     writing(tally, &job, 351, Ok(351));
     job.note.push(77);
     writing(tally, &job, 0, refuse(19, 0));
+    job.note.clear();
+    for (proposal, audit) in [
+        ([7, 5, 4], "audit pass\n"),
+        ([8, 4, 5], "audit total 1\naudit group 2 of 2: 0 2\n"),
+        ([-1, -1, -1], "audit total -19\n"),
+    ] {
+        job.proposals = proposal.to_vec();
+        reporting(tally, &job, audit);
+    }
 }

@@ -21,7 +21,7 @@ start c = c .before .before .before .before .before .before .before
 
 put-audit-requires : tie.Need-put-audit-requires
 put-audit-requires c κs =
-    let cost = c .before .before .before .before .before in
+    let cost = c .before .before .before .before .before .before in
     let pre = start cost .pre in
     let put = cost .put-cost .ensures in
     (few-members _ _ (pre .0) (pre .1 .0), omega (arith, pre, put .0 .same-length, put .1))
@@ -29,12 +29,14 @@ put-audit-requires c κs =
 returns : tie.Need-returns
 returns c =
     let put = c .before .before in
-    let audit = put .before in
-    let cost = audit .before .before .before .before .before in
-    let found = audit .audit .ensures in
+    let search = put .before .before in
+    let total = search .before in
+    let cost = total .before .before .before .before in
+    let found = search .find-group .ensures in
     let first = cost .put-cost .ensures in
     let second = put .put-audit .ensures in (
-      tree-joined _ _ (start cost .pre .1 .0) (found .0) (found .1) (first .0) (second .0),
+      tree-joined _ _ (start cost .pre .1 .0) (total .check-total .ensures) (found .0) (found .1)
+          (first .0) (second .0),
       omega (arith, first .1, second .1),
     )
 
@@ -46,6 +48,7 @@ put-tree-spec =
     (λ c. search needs)
     part-needs-end
     put-cost-requires
+    (λ c κs. search needs)
     (λ c κs. search needs)
     put-audit-requires
     (λ c. search needs)
