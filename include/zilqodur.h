@@ -239,8 +239,9 @@ ZilqodurLevel zilqodur_split_level(const uint16_t *parents, size_t parents_count
                                    const uint16_t *marks, size_t marks_count, const uint64_t *caps, size_t caps_count,
                                    uint64_t *out, size_t out_count);
 
-/* Writes the by-arc split: an arc with k users and cost c gives each user c / k, and one unit more to the c % k lowest-numbered users; an
- * arc without users is passed over. `out` has one entry a member. Refusals: the tree's, 8. */
+/* Writes the by-arc split: from arc m down to 1, an arc with k users and cost c gives each user c / k, and the c % k units left over one
+ * each to those of its users who have had the fewest leftover units so far, ties to the lowest member number; an arc without users is
+ * passed over. `out` has one entry a member. Refusals: the tree's, 8. */
 ZilqodurMembers zilqodur_split_by_arc(const uint16_t *parents, size_t parents_count, const uint32_t *costs, size_t costs_count,
                                       const uint16_t *marks, size_t marks_count, uint64_t *out, size_t out_count);
 

@@ -35,7 +35,17 @@ from levels import (
     small_levels,
     worst_levels,
 )
-from divisions import division_refusals, large_divisions, leftovers, random_divisions
+from divisions import (
+    division_refusals,
+    large_divisions,
+    large_turns,
+    leftovers,
+    meeting_branches,
+    random_divisions,
+    random_turns,
+    spare_turns,
+    turns,
+)
 from marks import many_marks, random_marks, small_marks, spare_networks
 from sums import large_sums, random_sums, small_sums, sum_limits, sum_refusals
 from pruned import check_pruned
@@ -121,6 +131,7 @@ STATED = [
     (("capsums", T, [3, 9, 4], 4), "total 16: 12,3,9,4"),
     (("byarc", T, 3), "members 3: 4,8,4"),
     (("byarc", U, 2), "members 2: 4,3"),
+    (("byarc", all_marked([0, 1, 2, 2], [1, 1, 0, 0]), 2), "members 2: 1,1"),
     (("count", T_SPARE), "members 2"),
     (("needs", T_SPARE, 4), "whole 11 members 2: 7,1,0,4"),
     (("group", T_SPARE, words_of([0])), "size 1 cost 7"),
@@ -180,9 +191,14 @@ PARTS = [
     worst_levels,
     random_levels,
     leftovers,
+    turns,
+    meeting_branches,
+    spare_turns,
+    large_turns,
     large_divisions,
     division_refusals,
     random_divisions,
+    random_turns,
     small_marks,
     spare_networks,
     many_marks,

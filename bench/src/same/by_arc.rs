@@ -1,41 +1,88 @@
-//! The by-arc split: each arc's cost divided by the number of its users, then
-//! the parts gathered on each member's way to the source.
+//! The by-arc split: the tallies after all arcs, as keys of members who stand
+//! side by side for every arc, and the equal parts on the way to each vertex.
 
-use super::{answer, check_tree, count_members, write_counted, write_members, write_user_counts};
+use super::turns::give_in_turn;
+use super::{
+    answer, check_tree, count_members, lay_out, write_counted, write_members, write_user_counts,
+};
 use crate::ffi::ZilqodurMembers;
 use crate::reference::{check_output, Answer, ARCS};
 
-fn share_of(parents: &[u16], each: &[u64], more: &mut [u64], vertex: u16) -> u64 {
-    let mut share = 0;
-    let mut k = usize::from(vertex);
-    while k > 0 {
-        let one = u64::from(more[k - 1] > 0);
-        share += each[k - 1] + one;
-        more[k - 1] -= one;
-        k = usize::from(parents[k - 1]);
+fn part_of(cost: u32, users: u32) -> u32 {
+    match users {
+        0 => 0,
+        1 => cost,
+        _ => cost / users,
     }
-    share
 }
 
-/// All of it is left over where there is no user.
-fn divide(cost: u64, users: u64) -> (u64, u64) {
+fn left_of(cost: u32, users: u32) -> u32 {
     match users {
-        0 => (0, cost),
-        _ => (cost / users, cost % users),
+        0 | 1 => 0,
+        _ => cost % users,
+    }
+}
+
+fn tally_of(key: u32, base: u32) -> u32 {
+    if key < base {
+        0
+    } else {
+        key / base
+    }
+}
+
+/// Writes each member's key where the users of its arc begin.
+fn write_tallies(
+    parents: &[u16],
+    costs: &[u32],
+    vertices: &[u16],
+    counts: &[u64],
+    starts: &mut [u64],
+    keys: &mut [u32],
+) {
+    let mut order = [0; ARCS];
+    let order = &mut order[..vertices.len()];
+    lay_out(parents, vertices, counts, starts, order);
+    for (key, &number) in keys.iter_mut().zip(order.iter()) {
+        *key = u32::from(number);
+    }
+    let base = order.len() as u32;
+    for i in (0..costs.len()).rev() {
+        let users = counts[i] as usize;
+        let more = left_of(costs[i], users as u32);
+        let from = starts[i] as usize;
+        give_in_turn(&mut keys[from..from + users], base, more);
+    }
+}
+
+/// The entry of the arc that ends at a vertex; 0 for the source.
+fn at_vertex(list: &[u64], vertex: usize) -> u64 {
+    match vertex {
+        0 => 0,
+        _ => list[vertex - 1],
+    }
+}
+
+/// `parts` holds first the number of users of each arc.
+fn write_parts(parents: &[u16], costs: &[u32], parts: &mut [u64]) {
+    for i in 0..parents.len() {
+        let above = at_vertex(parts, usize::from(parents[i]));
+        let part = part_of(costs[i], parts[i] as u32);
+        parts[i] = above + u64::from(part);
     }
 }
 
 fn split(parents: &[u16], costs: &[u32], vertices: &[u16], out: &mut [u64]) {
-    let mut counts = [0; ARCS];
-    let mut each = [0; ARCS];
-    let mut more = [0; ARCS];
-    let m = parents.len();
-    write_user_counts(parents, vertices, out, &mut counts[..m]);
-    for i in 0..m {
-        (each[i], more[i]) = divide(u64::from(costs[i]), counts[i]);
-    }
+    let (mut parts, mut starts, mut keys) = ([0; ARCS], [0; ARCS], [0; ARCS]);
+    let (m, n) = (parents.len(), vertices.len());
+    let (parts, starts, keys) = (&mut parts[..m], &mut starts[..m], &mut keys[..n]);
+    write_user_counts(parents, vertices, out, parts);
+    write_tallies(parents, costs, vertices, parts, starts, keys);
+    write_parts(parents, costs, parts);
     for (share, &vertex) in out.iter_mut().zip(vertices) {
-        *share = share_of(parents, &each[..m], &mut more[..m], vertex);
+        let v = usize::from(vertex);
+        let key = keys[at_vertex(starts, v) as usize];
+        *share = at_vertex(parts, v) + u64::from(tally_of(key, n as u32));
     }
 }
 

@@ -4,8 +4,8 @@
 //! to the level.
 
 use super::{
-    check_tree, count_members, write_cap_sums, write_counted, write_members, write_needs,
-    write_user_counts, VERTICES,
+    check_tree, count_members, lay_out, write_cap_sums, write_counted, write_members, write_needs,
+    write_user_counts,
 };
 use crate::ffi::ZilqodurLevel;
 use crate::reference::{check_caps, check_output, Answer, Refusal, AMOUNT, ARCS};
@@ -23,26 +23,6 @@ fn check_short(parents: &[u16], costs: &[u32], vertices: &[u16], caps: &[u64]) -
             place: i + 1,
             shortfall: needs[i] - sums[i],
         }),
-    }
-}
-
-/// Writes the members in depth-first order, and where each arc's users begin.
-fn lay_out(
-    parents: &[u16],
-    vertices: &[u16],
-    counts: &[u64],
-    starts: &mut [u64],
-    order: &mut [u16],
-) {
-    let mut next = [0; VERTICES];
-    for i in 0..parents.len() {
-        let parent = usize::from(parents[i]);
-        starts[i] = next[parent];
-        next[parent] += counts[i];
-        next[i + 1] = starts[i];
-    }
-    for (j, &vertex) in vertices.iter().enumerate() {
-        order[starts[usize::from(vertex) - 1] as usize] = j as u16;
     }
 }
 

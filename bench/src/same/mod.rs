@@ -11,6 +11,7 @@ mod level;
 mod needs;
 mod search;
 mod total;
+mod turns;
 mod writer;
 
 pub use by_arc::split_by_arc;
@@ -104,4 +105,24 @@ fn write_cap_sums(parents: &[u16], vertices: &[u16], caps: &[u64], out: &mut [u6
 fn write_user_counts(parents: &[u16], vertices: &[u16], ones: &mut [u64], out: &mut [u64]) {
     ones.fill(1);
     write_cap_sums(parents, vertices, ones, out);
+}
+
+/// Writes the members in depth-first order, and where each arc's users begin.
+fn lay_out(
+    parents: &[u16],
+    vertices: &[u16],
+    counts: &[u64],
+    starts: &mut [u64],
+    order: &mut [u16],
+) {
+    let mut next = [0; VERTICES];
+    for i in 0..parents.len() {
+        let parent = usize::from(parents[i]);
+        starts[i] = next[parent];
+        next[parent] += counts[i];
+        next[i + 1] = starts[i];
+    }
+    for (j, &vertex) in vertices.iter().enumerate() {
+        order[starts[usize::from(vertex) - 1] as usize] = j as u16;
+    }
 }

@@ -8,6 +8,7 @@ use native.Mathlib.Omega.{arith}
 use borrow.Author.Tests.{le-ltb}
 use lib.ListN.{length, getD, List·getD-map, length-map}
 use lib.IntN.{pos}
+use Rattle.limits.specs.Limits.{mostShare}
 use Rattle.game.specs.Network.{memberCount, wholeCost, used, everyone}
 use Rattle.game.specs.Tree.{Tree, network}
 use Rattle.game.specs.Core.{Core}
@@ -23,18 +24,18 @@ use Rattle.game.proofs.Gifts.{gift-even}
 use Rattle.game.proofs.EvenCore.{even-core}
 use Rattle.game.proofs.ByArc.{used-count, by-arc-length, by-arc-at}
 use Rattle.answer_forms.specs.Answer.{Check, accepted, written}
+use Rattle.answer_forms.proofs.Composed.{first-accepted}
 use Rattle.answers.specs.Checks.{treeCheck, outputCheck, outsideShare}
-use Rattle.limits.specs.Limits.{mostShare}
 use Rattle.answers.specs.Members.{membersCheck}
 use Rattle.answers.specs.Audit.{auditCheck}
 use Rattle.answers.specs.ByArc.{byArcList}
 use Rattle.answers.specs.ByArcLaws.{ByArcStatement}
 use Rattle.answers.proofs.Accepted.{Accepted, tree-accepted}
-use Rattle.answer_forms.proofs.Composed.{first-accepted}
 use Rattle.answers.proofs.Limits.{whole-bound}
 use Rattle.answers.proofs.InRange.{in-range}
 use Rattle.answers.proofs.CoreLaws.{members-end}
 use Rattle.answers.proofs.AuditLaws.{audit-laws}
+use Rattle.answers.proofs.InTurn.{in-turn}
 
 module _ (t : Tree) (out : List ℕ) (ok : membersCheck t out ≡ accepted) where
   tree-ok : treeCheck t ≡ accepted
@@ -88,6 +89,9 @@ pub by-arc-laws : ByArcStatement
 by-arc-laws t out ok =
     record {
       one-a-member = ap length (list t out ok) ∙ by-arc-length (network t);
+      from-arcs = λ j h. ap (λ (l : List ℕ). getD l j 0) (list t out ok) ∙ by-arc-at (network t) j h;
+      even = λ k arc. gifts t out ok k (record { low = arc .first; high = arc .last });
+      in-turn = λ k arc u. in-turn (network t) k (arc .last) (used-count (network t) k u);
       in-core = core t out ok;
       passes =
           audit-laws t (map pos (byArcList t out)) (proposed t out ok) .passes .1

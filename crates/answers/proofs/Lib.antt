@@ -10,5 +10,6 @@ pub mod CapSumsLaws
 pub mod ShortArc
 pub mod Table
 pub mod InRange
+mod InTurn
 pub mod ByArcLaws
 pub mod Unused

@@ -16,7 +16,7 @@ use Rattle.answers.specs.Audit.{totalAnswer, searchAnswer, searchWords}
 use Rattle.game.specs.Level.{firstLeast, units, arcsDown}
 use Rattle.answers.specs.Level.{shortArc, levelAnswer, levelList}
 use Rattle.answers.specs.CapSums.{runningTo, capSumsAnswer, capSumsList}
-use Rattle.game.specs.ByArc.{giveArc, byArcDown}
+use Rattle.game.specs.ByArc.{tallied, giveArc, handled}
 use Rattle.answers.specs.ByArc.{byArcAnswer, byArcList}
 use Rattle.answers.specs.Table.{Table}
 
@@ -24,8 +24,8 @@ pub table : Table
 unfolding climb used groupCost sumBelow wholeCost membersTo hasChild deadEnds countedCosts bit size entries wordsOf pays
     groups best named arcByArc treeCheck plainCheck deadEndsAnswer deadEndsList bitsCheck rangeCheck
     memberCountAnswer membersAnswer membersList needsAnswer needsList groupCostAnswer totalAnswer searchAnswer
-    searchWords firstLeast units arcsDown shortArc levelAnswer levelList giveArc byArcDown byArcAnswer byArcList
-    runningTo capSumsAnswer capSumsList
+    searchWords firstLeast units arcsDown shortArc levelAnswer levelList tallied giveArc handled byArcAnswer
+    byArcList runningTo capSumsAnswer capSumsList
 table =
     record {
       T-members = refl;
@@ -64,6 +64,8 @@ table =
       T-by-arc-list = refl;
       U-by-arc = refl;
       U-by-arc-list = refl;
+      X-by-arc = refl;
+      X-by-arc-list = refl;
       T-level-0 = refl;
       U-level-100-list = refl;
       T-9-9-9-total = refl;

@@ -10,20 +10,19 @@ use borrow.Author.Tests.{le-ltb}
 use lib.ListN.{length}
 use lib.IntN.{ℤ}
 use Rattle.basics.specs.Sum.{list, size}
-use Rattle.basics.proofs.Bools.{both, clash, not-so, and-both, and-first, and-second, pick-yes, pick-no, pick-zero}
-use Rattle.basics.proofs.Bools.{pick-same}
+use Rattle.basics.specs.Bit.{bit}
+use Rattle.basics.proofs.Bools.{both, clash, not-so, and-both, and-first, and-second, pick-yes, pick-no, pick-same}
 use Rattle.basics.proofs.Sums.{In, sum-zero}
 use Rattle.basics.proofs.Lists.{list-cong}
 use Rattle.game.specs.Network.{Network, atOrBelow, used, everyone, groupCost, sumBelow, need, wholeCost, memberCount}
 use Rattle.game.specs.Network.{members}
 use Rattle.game.specs.Tree.{Tree, treeOf, ofArc, networkOf, counted, countedCosts, network}
 use Rattle.game.specs.Core.{users}
-use Rattle.game.specs.ByArc.{byArc}
+use Rattle.game.specs.ByArc.{rank, talliesAt, byArc}
 use Rattle.game.specs.Level.{units, level}
 use Rattle.game.specs.Group.{wordsOf, byNumber}
 use Rattle.game.specs.Proposal.{difference}
 use Rattle.game.specs.Search.{isIn, named}
-use Rattle.basics.specs.Bit.{bit}
 use Rattle.game.proofs.Below.{Rooted, below-trans}
 use Rattle.game.proofs.Groups.{used-of, used-by}
 use Rattle.game.proofs.Counted.{unused-free}
@@ -74,7 +73,11 @@ unused-laws t ok k arc unused =
           (both (atOrBelow n k e)));
       no-gift =
           λ j.
-          rw (free, zero-div, zero-mod, le-ltb (size j (users n k)) 0 (omega arith)) (pick-zero (users n k j));
+          rw (free, zero-div, zero-mod, le-ltb (rank n k (talliesAt n k) j) 0 (omega arith))
+          (⊎-elim
+          (λ (u : users n k j ≡ true). rw u (omega arith))
+          (λ (u : users n k j ≡ false). rw u (omega arith))
+          (both (users n k j)));
       no-unit = λ caps shares. ap (λ (c : ℕ). units n caps k c shares) free;
     }
   where

@@ -1,16 +1,17 @@
--- Demand 2 of the by-arc split, about its own lists.
+-- Demand 2 of the by-arc split, about its own lists; and that units left over are given in turn.
 use Prim.Native.Nat.{ℕ, _*_, _/_, _<_}
 use mathlib.Core.Path.{_≡_}
-use mathlib.Core.Bool.{true}
+use mathlib.Core.Bool.{Bool, true, _&&_}
 use mathlib.Core.List.{List, map}
 use lib.ListN.{length, getD}
 use lib.IntN.{pos}
-use Rattle.basics.specs.Sum.{pick, sum}
-use Rattle.game.specs.Network.{memberCount, used, everyone}
+use lib.Dec.{ltb}
+use Rattle.basics.specs.Sum.{pick, sum, count, size}
+use Rattle.game.specs.Network.{Network, memberCount, used, everyone}
 use Rattle.game.specs.Tree.{Tree, network}
 use Rattle.game.specs.Core.{users, Core}
-use Rattle.game.specs.ByArc.{userCount}
-use Rattle.game.specs.Shapley.{factorial, shapley, pathLength, Within}
+use Rattle.game.specs.ByArc.{userCount, equalPart, leftover, ahead, talliesAt, gift}
+use Rattle.game.specs.Shapley.{factorial, shapley, pathLength, Even, Within}
 use Rattle.answer_forms.specs.Answer.{accepted}
 use Rattle.answers.specs.Laws.{ArcOf}
 use Rattle.answers.specs.Members.{membersCheck}
@@ -21,8 +22,29 @@ use Rattle.answers.specs.ByArc.{byArcList}
 abbrev pub membersFactorial : Tree → ℕ
 membersFactorial t = factorial (memberCount (network t))
 
+-- member j uses arc k, and gets more of it than the equal part
+abbrev pub getsMore : Network → ℕ → ℕ → Bool
+getsMore n k j = users n k j && ltb (equalPart n k) (gift n k j)
+
+-- of arc k, which has users
+pub record InTurn (n : Network) (k : ℕ) : Type 0 where
+  -- exactly as many users get one unit more as are left over
+  pub as-many : size (memberCount n) (getsMore n k) ≡ leftover n k
+  -- of two users, the one with the smaller tally, or the same and the lower number, is served first
+  pub first : (i j : ℕ) → i < memberCount n → j < memberCount n → users n k i ≡ true
+      → ahead (talliesAt n k) i j ≡ true → getsMore n k j ≡ true → getsMore n k i ≡ true
+  -- a member's tally is the number of arcs handled so far, those above k, that gave it one unit more
+  pub tally : (j : ℕ) → j < memberCount n
+      → getD (talliesAt n k) j 0 ≡ count (n .arcs) (λ e. ltb k e && getsMore n e j)
+
 pub record ByArcLaws (t : Tree) (out : List ℕ) : Type 0 where
   pub one-a-member : length (byArcList t out) ≡ memberCount (network t)
+  -- a share is the sum of what the arcs give the member
+  pub from-arcs : (j : ℕ) → j < memberCount (network t)
+      → getD (byArcList t out) j 0 ≡ sum (network t .arcs) (λ k. gift (network t) k j)
+  -- each arc gives its cost to its users, each the equal part or one unit more
+  pub even : (k : ℕ) → ArcOf t k → Even (network t) k (gift (network t) k)
+  pub in-turn : (k : ℕ) → ArcOf t k → used (network t) everyone k ≡ true → InTurn (network t) k
   -- the shares add up to the whole cost, and no group pays more than its own network costs
   pub in-core : Core (network t) (map pos (byArcList t out))
   -- so the split passes the audit

@@ -31,6 +31,10 @@ T-spare = T-marked 0 1 0 1
 abbrev pub U : Tree
 U = deadEndTree (0 ∷ 1 ∷ 1 ∷ []) (7 ∷ 0 ∷ 0 ∷ [])
 
+-- the tree X, in which two members share two arcs
+abbrev pub X : Tree
+X = deadEndTree (0 ∷ 1 ∷ 2 ∷ 2 ∷ []) (1 ∷ 1 ∷ 0 ∷ 0 ∷ [])
+
 -- the tree W
 abbrev pub W : Tree
 W = deadEndTree (0 ∷ 1 ∷ 1 ∷ 0 ∷ []) (10 ∷ 1 ∷ 1 ∷ 8 ∷ [])
@@ -80,6 +84,8 @@ pub record Table : Type 0 where
   pub T-by-arc-list : byArcList T (lent 3) ≡ 4 ∷ 8 ∷ 4 ∷ []
   pub U-by-arc : byArcAnswer U (lent 2) ≡ value 2
   pub U-by-arc-list : byArcList U (lent 2) ≡ 4 ∷ 3 ∷ []
+  pub X-by-arc : byArcAnswer X (lent 2) ≡ value 2
+  pub X-by-arc-list : byArcList X (lent 2) ≡ 1 ∷ 1 ∷ []
   -- beyond the specification's rows: every arc is short, and a rest of 1 between two users
   pub T-level-0 : levelAnswer T (0 ∷ 0 ∷ 0 ∷ []) (lent 3) ≡ refusal 9 4 4
   pub U-level-100-list : levelList U (100 ∷ 100 ∷ []) (lent 2) ≡ 4 ∷ 3 ∷ []

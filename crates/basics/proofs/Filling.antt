@@ -1,6 +1,6 @@
 -- A loop that writes a list from its first place on.
 use Prim.Native.Nat.{ℕ, suc, _+_, _≤_, _<_}
-use mathlib.Core.Path.{_≡_, sym, _∙_}
+use mathlib.Core.Path.{_≡_, refl, sym, _∙_}
 use mathlib.Core.List.{List}
 use native.Mathlib.Decide.{ℕ-discrete}
 use native.Mathlib.Omega.{arith}
@@ -39,3 +39,29 @@ module _ (n : ℕ) (f : ℕ → ℕ) where
     filling-end h wanted e says =
         ext-getD 0 out wanted (s .kept ∙ sym e)
         (λ u l. s .filled u (omega (arith, s .kept)) ∙ sym (says u (omega (arith, s .kept))))
+
+-- a loop that writes each entry of a list anew, from its first place on
+module _ (before : List ℕ) (f : ℕ → ℕ) where
+  -- the places below i hold what f says, the others what they held
+  pub record Rewriting (out : List ℕ) (i : ℕ) : Type 0 where
+    pub kept : length out ≡ length before
+    pub done : (u : ℕ) → u < i → getD out u 0 ≡ f u
+    pub rest : (u : ℕ) → i ≤ u → getD out u 0 ≡ getD before u 0
+
+  pub rewriting-start : Rewriting before 0
+  rewriting-start = record { kept = refl; done = λ u h. absurd (omega arith); rest = λ u h. refl }
+
+  pub rewriting-on : {out : List ℕ} {i : ℕ} → Rewriting out i → i < length before → (w : ℕ) → w ≡ f i
+      → Rewriting (set out i w) (i + 1)
+  rewriting-on {out} {i} s h w e =
+      record {
+        kept = filled .kept;
+        done = filled .filled;
+        rest = λ u l. getD-set-other out i u w 0 (λ d. absurd (omega arith)) ∙ s .rest u (omega arith);
+      }
+    where
+      so-far : Filling (length before) f out i
+      so-far = record { kept = s .kept; filled = s .done }
+
+      filled : Filling (length before) f (set out i w) (i + 1)
+      filled = filling-on (length before) f so-far h w e

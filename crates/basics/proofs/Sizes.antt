@@ -10,11 +10,10 @@ use mathlib.Core.Bool.{Bool, true, false}
 use native.Mathlib.Nat.{add-zero, add-suc}
 use mathlib.Core.Logic.{⊎-elim}
 use native.Mathlib.Decide.{decLt}
-use native.Mathlib.Numerals.{one-add}
 use native.Mathlib.Omega.{arith}
 use Rattle.basics.specs.Sum.{pick, sum₀, size}
 use Rattle.basics.proofs.Bools.{both, pick-mono, pick-yes, pick-no}
-use Rattle.basics.proofs.Sums.{sum-count, count-le, sum₀-is}
+use Rattle.basics.proofs.Sums.{sum-count, count-le, sum₀-is, sum₀-first}
 
 pub size-more : (n : ℕ) (g : ℕ → Bool) → size (suc n) g ≡ size n g + pick (g n) 1
 unfolding size
@@ -37,7 +36,7 @@ size-split n (suc m) g = rw add-suc (omega (arith, size-split n m g))
 -- from the first number on
 pub size-first : (n : ℕ) (g : ℕ → Bool) → size (suc n) g ≡ pick (g 0) 1 + size n (λ i. g (suc i))
 unfolding size
-size-first n g = omega (arith, simp one-add at (size-split 1 n g))
+size-first n g = sum₀-first n (λ i. pick (g i) 1)
 
 pub size-same : (n : ℕ) (f g : ℕ → Bool) → ((i : ℕ) → i < n → f i ≡ g i) → size n f ≡ size n g
 unfolding size

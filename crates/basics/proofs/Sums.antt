@@ -8,6 +8,7 @@
 --   some-of, some-is                  `some` from a witness, and a witness `Some` from it
 --   sum-pos, sum-more-some            a term that makes a sum positive, or greater than another
 --   sum₀-is                           a sum from 0 as one from 1; its laws sum₀-add and so on come from there
+--   sum₀-first                        its first term, then the others
 use Prim.Native.Nat.{ℕ, zero, suc, pred, _+_, _*_, _≤_, _<_, zero-le}
 use mathlib.Core.Path.{_≡_, refl, sym, ap, ap₂, _∙_}
 use mathlib.Core.Bool.{Bool, true, false, not, _||_, false≢true}
@@ -165,6 +166,11 @@ sum-more-some (suc m) f g h =
 pub sum₀-is : (n : ℕ) (f : ℕ → ℕ) → sum₀ n f ≡ sum n (λ k. f (pred k))
 sum₀-is zero f = refl
 sum₀-is (suc n) f = ap (λ (s : ℕ). s + f n) (sum₀-is n f)
+
+-- the first term, then the others
+pub sum₀-first : (n : ℕ) (f : ℕ → ℕ) → sum₀ (suc n) f ≡ f 0 + sum₀ n (λ i. f (suc i))
+sum₀-first zero f = omega arith
+sum₀-first (suc n) f = omega (arith, sum₀-first n f)
 
 pub sum₀-cong : (n : ℕ) {f g : ℕ → ℕ} → ((i : ℕ) → i < n → f i ≡ g i) → sum₀ n f ≡ sum₀ n g
 sum₀-cong n h = simp sum₀-is (sum-cong n (λ k i. h (pred k) (omega arith)))

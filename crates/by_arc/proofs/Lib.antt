@@ -1,3 +1,4 @@
-mod Climbing
-mod Serving
+mod Ways
+mod PartKeys
+mod Turning
 mod Split

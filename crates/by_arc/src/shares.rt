@@ -1,55 +1,39 @@
-// The members' shares, each gathered on the way from the member's vertex to the source.
+// The members' shares from the equal parts and the tallies.
+use crate::parts::at_vertex;
 ghost use mathlib.Core.Path.{_≡_};
-ghost use Prim.Native.Nat.{_≤_};
-ghost use mathlib.Core.List.{[]};
+ghost use Prim.Native.Nat.{_/_, _<_};
 ghost use lib.ListN.{length};
 ghost use Rattle.basics.specs.Sum.{entries};
-ghost use Rattle.game.specs.Tree.{networkOf, ofArc};
-ghost use Rattle.tree.specs.Passes.{Sound, Listed, networkAt};
-ghost use Rattle.by_arc.specs.Parts.{Parts, given, sumAbove, oneLess, dealt};
+ghost use Rattle.by_arc.specs.Shares.{Placed, shareOf};
 
-// Every arc on the way gives its part, and one of its units as long as some are left.
-fn share_of(parents: &[u16], each: &[u64], more: &mut [u64], vertex: usize) -> u64
-    requires { ⌜ Sound (now parents) ⌝ }
-    requires { ⌜ Parts (length (now parents)) (now each) (now more) ⌝ }
-    requires { ⌜ vertex ≤ length (now parents) ⌝ }
-    ensures { λ r. ⌜ r ≡ sumAbove (networkOf (now (parents .entry)) [] [])
-        (given (ofArc (now (each .entry))) (ofArc (now (more .entry)))) vertex ⌝ }
-    ensures { λ _. ⌜ now (more .exit) ≡ oneLess (networkOf (now (parents .entry)) [] []) (now (more .entry)) vertex ⌝ }
+// The tally of a key.
+fn tally_of(key: u32, base: u32) -> u32
+    requires { ⌜ 0 < base ⌝ }
+    ensures { λ r. ⌜ r ≡ key / base ⌝ }
 {
-    let mut share: u64 = 0;
-    let mut k = vertex;
-    while 0 < k {
-        let place = k - 1;
-        let left = more[place];
-        let one = numbers::one_if_below(0, left);
-        share += each[place] + one;
-        more[place] = left - one;
-        k = parents[place] as usize;
-    }
-    share
+    if key < base { 0 } else { key / base }
 }
 
-// Writes the members' shares from number 0 on, so that the lowest numbers get the units.
+// A member's key stands where the users of its arc begin. The base of the keys is the number of members.
 pub fn write_shares(
-    parents: &[u16],
     vertices: &[u16],
-    each: &[u64],
-    more: &mut [u64],
+    starts: &[u64],
+    keys: &[u32],
+    parts: &[u64],
     shares: &mut [u64],
 )
-    requires { ⌜ Sound (now parents) ⌝ }
-    requires { ⌜ Listed (now parents) (now vertices) ⌝ }
-    requires { ⌜ Parts (length (now parents)) (now each) (now more) ⌝ }
+    requires { ⌜ Placed (now vertices) (now starts) (now keys) (now parts) ⌝ }
     requires { ⌜ length (now shares) ≡ length (now vertices) ⌝ }
-    ensures { λ _. ⌜ now (shares .exit)
-        ≡ entries (length (now (shares .entry)))
-        (dealt (networkAt (now (parents .entry)) [] (now (vertices .entry))) (now (each .entry))
-        (now (more .entry))) ⌝ }
+    ensures { λ _. ⌜ now (shares .exit) ≡ entries (length (now (vertices .entry)))
+        (shareOf (now (vertices .entry)) (now (starts .entry)) (now (keys .entry)) (now (parts .entry))) ⌝ }
 {
+    let base = vertices.len() as u32;
     let mut j = 0;
     while j < vertices.len() {
-        shares[j] = share_of(parents, each, more, vertices[j] as usize);
+        let v = vertices[j] as usize;
+        let place = at_vertex(starts, v) as usize;
+        let tally = tally_of(keys[place], base);
+        shares[j] = at_vertex(parts, v) + tally as u64;
         j += 1;
     }
 }

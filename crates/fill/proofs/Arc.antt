@@ -14,7 +14,7 @@ use Rattle.game.proofs.Raise.{Raised, fill-step, fill-next-level, units-raise}
 use Rattle.limits.specs.Limits.{mostShare, mostArcs}
 use Rattle.users.specs.Users.{Lists}
 use Rattle.fill.specs.Fill.{mostKey, Numbers, taken, filled, Greatest, raised, GivenOut}
-use Rattle.fill.proofs.Listed.{list-length, number-below, listed}
+use Rattle.users.proofs.Listed.{list-length, number-below, listed}
 use Rattle.fill.proofs.Turns.{raised-length, raised-entry}
 
 module _ (n : Network) (k : ℕ) (us : List ℕ) (lists : Lists n k us) (caps shares : List ℕ)

@@ -1,4 +1,3 @@
-mod Listed
 mod Turns
 mod Bisection
 pub mod Arc

@@ -29,6 +29,7 @@ mod GroupSums
 mod Weights
 pub mod Shapley
 pub mod Even
+pub mod Keys
 pub mod Gifts
 pub mod NaturalShares
 pub mod EvenCore

@@ -14,6 +14,7 @@ from networks import (
     random_proposal,
     random_tree,
     star,
+    thinned,
 )
 from trees import LARGE, every_entry, proposed
 from levels import level_of
@@ -113,14 +114,6 @@ def many_marks():
         yield "check", Tree(star(1022) + [parent], ones_each, ones_each)
     # 1 before 2
     yield "check", Tree(star(1024), star(1024), ones_each)
-
-
-def thinned(dice, tree):
-    """The tree with the marks of some members taken off; one is left at least."""
-    marks = [dice.choice([0, mark]) for mark in tree.marks]
-    if 1 not in marks:
-        marks[-1] = 1
-    return tree._replace(marks=marks)
 
 
 def badly_marked(dice, tree):

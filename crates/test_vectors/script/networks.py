@@ -50,11 +50,19 @@ def random_parent(dice, shape, arc):
     return dice.randrange(arc)
 
 
-def random_tree(dice, arcs):
-    shape = dice.choice(["any", "deep", "wide"])
-    most = dice.choice([1, 9, 9, 1000, MOST_COST])
+def random_tree(dice, arcs, shapes=("any", "deep", "wide"), most_costs=(1, 9, 9, 1000, MOST_COST)):
+    shape = dice.choice(shapes)
+    most = dice.choice(most_costs)
     parents = [random_parent(dice, shape, arc) for arc in range(1, arcs + 1)]
     return all_marked(parents, [dice.randint(0, most) for _ in range(arcs)])
+
+
+def thinned(dice, tree):
+    """The tree with the marks of some members taken off; one is left at least."""
+    marks = [dice.choice([0, mark]) for mark in tree.marks]
+    if 1 not in marks:
+        marks[-1] = 1
+    return tree._replace(marks=marks)
 
 
 def random_group(dice, count):

@@ -3,10 +3,10 @@ import random
 from itertools import product
 
 from rules import MOST_CAP, MOST_COST, all_marked, member_count
-from networks import T, T_SPARE, U, W, broom, chain, comb, random_caps, random_tree, star
+from networks import T, T_SPARE, U, W, broom, chain, comb, random_caps, random_tree, star, thinned
 from trees import FAULTY
 from levels import GREATEST
-from marks import SPARE, spare_run, thinned
+from marks import SPARE, spare_run
 
 
 def sums_of(tree, caps):

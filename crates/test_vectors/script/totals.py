@@ -3,9 +3,8 @@ import random
 from itertools import product
 
 from rules import MOST_COST, MOST_SHARE, all_marked, member_count
-from networks import T, T_SPARE, U, W, comb, random_payers, random_tree, star
+from networks import T, T_SPARE, U, W, comb, random_payers, random_tree, star, thinned
 from trees import proposed
-from marks import thinned
 
 
 def wrong_totals():

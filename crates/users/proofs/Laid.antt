@@ -8,7 +8,7 @@ use lib.ListN.{length, getD, take, drop}
 use lib.Seq.{drop-cons}
 use lib.Dec.{eqb}
 use Rattle.basics.specs.Sum.{pick, list, sum₀}
-use Rattle.game.specs.Network.{Network, atOrBelow, memberCount}
+use Rattle.game.specs.Network.{Network, atOrBelow, memberCount, members}
 use Rattle.game.specs.Tree.{ofArc}
 use Rattle.game.specs.Core.{users}
 use Rattle.game.specs.ByArc.{userCount}
@@ -21,11 +21,12 @@ use Rattle.game.proofs.Below.{below-self}
 use Rattle.game.proofs.Shapley.{user-count-pos}
 use Rattle.tree.specs.Passes.{Sound, Listed, networkAt}
 use Rattle.tree.proofs.CapPass.{member-in}
+use Rattle.tree.proofs.Vertices.{vertices-count, vertices-few, listed-end}
 use Rattle.users.specs.Users.{total, LaidOut}
 use Rattle.users.specs.Layout.{Counts, Begins, Begun, slot, Apart, Ordered}
-use Rattle.users.proofs.UserSums.{vertex, over-members, over-users}
+use Rattle.users.proofs.Listed.{total-places}
+use Rattle.users.proofs.UserSums.{over-members, over-users}
 use Rattle.users.proofs.Walk.{before, arc-filled, all-filled, arc-within}
-use Rattle.tree.proofs.Vertices.{vertices-count, vertices-few, listed-end}
 
 -- the sum over a part of a list
 part-total : (g : ℕ → ℕ) (l : List ℕ) (c a : ℕ) → a + c ≤ length l
@@ -131,16 +132,35 @@ module _ (ps vertices counts starts : List ℕ) (sound : Sound ps)
       part-within : (k : ℕ) → In (length ps) k → ofArc starts k + ofArc counts k ≤ length order
       part-within k i = omega (arith, arc-reach k i, vertices-count ps vertices listing)
 
+      at-place : (j : ℕ) → j < memberCount net → getD order (slot (members net) starts j) 0 ≡ j
+      at-place j h =
+          ap (λ (l : List ℕ). getD order (slot l starts j) 0) (sym (listing .are))
+          ∙ ordered .placed j (omega (arith, vertices-count ps vertices listing))
+
+      place-in : (j : ℕ) → j < memberCount net → slot (members net) starts j < length order
+      place-in j h =
+          omega (
+            arith,
+            ap (λ (l : List ℕ). slot l starts j) (sym (listing .are)),
+            slot-within j (omega (arith, vertices-count ps vertices listing)),
+            vertices-count ps vertices listing,
+          )
+
       -- what stands at the users' places are their numbers
       at-slots : (g : ℕ → ℕ) (k : ℕ)
-          → sum₀ (memberCount net) (λ j. pick (users net k j) (g (getD order (ofArc starts (vertex net j)) 0)))
+          → sum₀ (memberCount net) (λ j. pick (users net k j) (g (getD order (slot (members net) starts j) 0)))
           ≡ sum₀ (memberCount net) (λ j. pick (users net k j) (g j))
       at-slots g k =
-          sum₀-cong (memberCount net)
-          (λ j h.
-          ap (λ (u : ℕ). pick (users net k j) (g u))
-          (ap (λ (l : List ℕ). getD order (slot l starts j) 0) (sym (listing .are))
-          ∙ ordered .placed j (omega (arith, vertices-count ps vertices listing))))
+          sum₀-cong (memberCount net) (λ j h. ap (λ (u : ℕ). pick (users net k j) (g u)) (at-place j h))
+
+      all-listed : (g : ℕ → ℕ) → total g order ≡ sum₀ (memberCount net) g
+      all-listed g =
+          total-places g order
+          ∙ ap (before (λ t. g (getD order t 0))) (sized ∙ vertices-count ps vertices listing)
+          ∙ sym (all-filled net (ofArc starts) (sound .rising) begins (listed-end ps vertices listing [])
+          (λ t. g (getD order t 0)))
+          ∙ sym (over-members net (λ v. g (getD order (ofArc starts v) 0)))
+          ∙ sum₀-cong (memberCount net) (λ j h. ap g (at-place j h))
 
       pub laid-out : LaidOut net starts counts order
       laid-out =
@@ -148,6 +168,9 @@ module _ (ps vertices counts starts : List ℕ) (sound : Sound ps)
             starts-sized = begun .kept;
             counts-sized = user-counts ps vertices sound counted .sized;
             order-sized = sized ∙ vertices-count ps vertices listing;
+            everyone = all-listed;
+            place-within = place-in;
+            placed = at-place;
             within = λ k low high. part-within k (omega arith);
             lists =
                 λ k low high.

@@ -1,6 +1,7 @@
+pub mod Listed
 pub mod Parts
 mod StartPass
 mod OrderPass
 mod UserSums
 mod Walk
-mod Laid
+pub mod Laid

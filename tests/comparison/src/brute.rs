@@ -127,13 +127,34 @@ pub fn level(tree: &Tree, caps: &[u64]) -> Option<Vec<u64>> {
     Some(shares)
 }
 
-/// The by-arc split unit by unit, the users of an arc taking turns.
+/// The users to whom an arc's leftover units go: of all groups of as many users
+/// the one in which everybody comes before everybody who is not in it.
+fn served(users: &[usize], left: u32, tallies: &[u64]) -> Vec<usize> {
+    let before = |i: usize, j: usize| tallies[i] < tallies[j] || tallies[i] == tallies[j] && i < j;
+    let part = |bits: usize, bit: usize| {
+        let places = (0..users.len()).filter(move |place| bits >> place & 1 == bit);
+        places.map(|place| users[place])
+    };
+    let first = |&bits: &usize| part(bits, 1).all(|i| part(bits, 0).all(|j| before(i, j)));
+    let mut groups = (0..1 << users.len()).filter(|bits: &usize| bits.count_ones() == left);
+    part(groups.find(first).unwrap(), 1).collect()
+}
+
+/// The by-arc split: units to all users while there are enough, then one each to
+/// some, who have that counted in their tallies.
 pub fn by_arc(tree: &Tree) -> Vec<u64> {
     let mut shares = vec![0; tree.members.len()];
+    let mut tallies = vec![0; tree.members.len()];
     for arc in (1..=tree.arcs()).rev() {
         let users = users(tree, arc);
-        for unit in 0..cost(tree, arc) as usize {
-            shares[users[unit % users.len()]] += 1;
+        let mut left = cost(tree, arc);
+        while left > 0 && left >= users.len() as u64 {
+            users.iter().for_each(|&j| shares[j] += 1);
+            left -= users.len() as u64;
+        }
+        for member in served(&users, left as u32, &tallies) {
+            shares[member] += 1;
+            tallies[member] += 1;
         }
     }
     shares

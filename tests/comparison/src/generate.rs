@@ -6,9 +6,10 @@ use crate::rng::Rng;
 
 /// The parents of a tree of one of many shapes.
 pub fn parents(rng: &mut Rng, arcs: usize) -> Vec<u16> {
-    let shape = rng.below(12);
+    let shape = rng.below(14);
     let most = rng.pick(&[arcs.min(4), arcs]);
     let width = 1 + rng.below(most);
+    let chain = arcs - rng.below(arcs.min(12));
     let parent = |k: usize| match shape {
         0 => 0,
         1 => k - 1,
@@ -26,14 +27,29 @@ pub fn parents(rng: &mut Rng, arcs: usize) -> Vec<u16> {
         // Long unbranched runs.
         10 if rng.one_in(5) => rng.below(k),
         10 => k - 1,
+        // A long chain with few members, at its end or anywhere along it.
+        11 | 12 if k <= chain => k - 1,
+        11 => chain,
+        12 => rng.below(chain + 1),
         _ => k - 1 - rng.below(k.min(width)),
     };
     (1..=arcs).map(parent).map(|p| p as u16).collect()
 }
 
-pub fn costs(rng: &mut Rng, arcs: usize) -> Vec<u32> {
-    let kind = rng.below(9);
-    let mut cost = || match kind {
+/// The number of users of each arc, entry 0 being arc 1's.
+fn user_counts(parents: &[u16], marks: &[u16]) -> Vec<u32> {
+    let mut counts = vec![0; parents.len() + 1];
+    for (i, &parent) in parents.iter().enumerate().rev() {
+        counts[i + 1] += u32::from(marks[i]);
+        counts[usize::from(parent)] += counts[i + 1];
+    }
+    counts.split_off(1)
+}
+
+/// Costs in range. Small ones leave units over at many arcs of the by-arc split.
+pub fn costs(rng: &mut Rng, parents: &[u16], marks: &[u16]) -> Vec<u32> {
+    let kind = rng.below(12);
+    let cost = |users: u32| match kind {
         0 => rng.up_to(1) as u32,
         1 => rng.up_to(3) as u32,
         2 | 3 => rng.up_to(20) as u32,
@@ -42,9 +58,14 @@ pub fn costs(rng: &mut Rng, arcs: usize) -> Vec<u32> {
         6 if rng.one_in(4) => rng.up_to(100) as u32,
         6 => 0,
         7 => COST - rng.up_to(2) as u32,
+        8 => rng.up_to(9) as u32,
+        9 => rng.up_to(u64::from(users)) as u32,
+        // As many units left over as can be.
+        10 => users.saturating_sub(1),
         _ => (rng.up_to(u64::from(COST)) >> rng.below(30)) as u32,
     };
-    (0..arcs).map(|_| cost()).collect()
+    let users = user_counts(parents, marks);
+    users.into_iter().map(cost).collect()
 }
 
 /// Marks that are accepted: of all dead ends, or of some of them.

@@ -52,6 +52,7 @@ fn main() {
     let mut tally = Tally::default();
     table::compare(&mut tally);
     compare_longest(&mut tally);
+    compare_leftovers(&mut tally);
     for phase in PHASES {
         for round in 0..(phase.rounds * percent).div_ceil(100) {
             tally.seed = phase.seed + round;
@@ -85,8 +86,8 @@ fn main() {
 /// Every entry on one tree and on a damaged copy of it.
 fn compare_round(tally: &mut Tally, rng: &mut Rng, arcs: usize) {
     let parents = generate::parents(rng, arcs);
-    let costs = generate::costs(rng, arcs);
     let marks = generate::marks(rng, &parents);
+    let costs = generate::costs(rng, &parents, &marks);
     let mut network = Network {
         parents,
         costs,
@@ -217,6 +218,20 @@ fn compare_longest(tally: &mut Tally) {
             compare_job(tally, &mut rng, &job.write());
             compare_writer(tally, &mut rng, &job, job.write().len());
         }
+    }
+}
+
+/// The by-arc split on chains that end in some members, with as many leftover units as can be.
+fn compare_leftovers(tally: &mut Tally) {
+    for members in [2, 3, 32, 33, 512, ARCS - 1] {
+        let chain = ARCS - members;
+        let parents: Vec<u16> = (0..ARCS).map(|above| above.min(chain) as u16).collect();
+        let network = Network {
+            costs: vec![members as u32 - 1; ARCS],
+            marks: reference::dead_ends(&parents),
+            parents,
+        };
+        network.split_by_arc(tally, &vec![77; members]);
     }
 }
 

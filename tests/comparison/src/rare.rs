@@ -1,6 +1,7 @@
 //! The cases that a run of all rounds is to meet: every refusal of every
-//! entry, faults that stand in one tree or one job, trees with spare plots, and
-//! totals of every kind with and without a group.
+//! entry, faults that stand in one tree or one job, trees with spare plots,
+//! leftover units that tallies decide over, and totals of every kind with and
+//! without a group.
 
 use crate::job::Fault;
 use crate::reference::{Refusal, Tree};
@@ -58,6 +59,11 @@ const ONE: &str = "one member and other dead ends";
 const BRANCH: &str = "a branch from the source without users";
 const LAST: &str = "nobody at the last vertex";
 const RUN: &str = "a long run of arcs without users";
+
+const TIE: &str = "a leftover unit by number, the tallies being equal and above 0";
+const PAST: &str = "a leftover unit past a lower number";
+const ONE_EACH: &str = "an arc's leftover units to users with tallies more than 1 apart";
+const MANY: &str = "a tally above 255";
 
 /// What judges a proposal.
 pub const ARCHIVE: &str = "the archive";
@@ -117,23 +123,43 @@ fn longest_unused(tree: &Tree) -> usize {
     run.into_iter().max().unwrap()
 }
 
+fn note(tally: &mut Tally, name: &str, holds: bool) {
+    if holds {
+        tally.met.insert(name.to_string());
+    }
+}
+
 /// Notes what is rare about an accepted tree.
 pub fn note_tree(tally: &mut Tally, tree: &Tree) {
     let arcs = tree.arcs();
     let unused = |arc: usize| tree.users[arc].is_empty();
     let spare = (1..=arcs).any(unused);
     let branch = (1..=arcs).any(|arc| unused(arc) && tree.parent[arc] == 0);
-    let mut note = |name: &str, holds: bool| {
-        if holds {
-            tally.met.insert(name.to_string());
+    note(tally, NO_SPARE, !spare);
+    note(tally, SPARE, spare);
+    note(tally, ONE, spare && tree.members.len() == 1);
+    note(tally, BRANCH, branch);
+    note(tally, LAST, unused(arcs));
+    note(tally, RUN, longest_unused(tree) >= LONG);
+    note_leftovers(tally, tree);
+}
+
+/// Notes what decides over the leftover units of the by-arc split.
+fn note_leftovers(tally: &mut Tally, tree: &Tree) {
+    let mut tallies = vec![0; tree.members.len()];
+    for arc in tree.used() {
+        let users = tree.in_turn(arc, &tallies);
+        let (served, others) = users.split_at(tree.cost[arc] as usize % users.len());
+        if let [.., last] = *served {
+            let (first, next) = (served[0], others[0]);
+            let tie = tallies[last] == tallies[next] && tallies[last] > 0;
+            note(tally, TIE, tie);
+            note(tally, PAST, served.iter().max() > others.iter().min());
+            note(tally, ONE_EACH, tallies[first] + 1 < tallies[last]);
         }
-    };
-    note(NO_SPARE, !spare);
-    note(SPARE, spare);
-    note(ONE, spare && tree.members.len() == 1);
-    note(BRANCH, branch);
-    note(LAST, unused(arcs));
-    note(RUN, longest_unused(tree) >= LONG);
+        served.iter().for_each(|&j| tallies[j] += 1);
+    }
+    note(tally, MANY, tallies.iter().any(|&count| count > 255));
 }
 
 fn judged(by: &str, total: &str, group: &str) -> String {
@@ -188,11 +214,12 @@ pub fn unmet(tally: &Tally) -> Vec<String> {
     let apart = APART.map(|(a, b)| meeting(a, b, false));
     let jobs = WRITER.windows(2).map(|pair| job_meeting(pair[0], pair[1]));
     let trees = [NO_SPARE, SPARE, ONE, BRANCH, LAST, RUN, ALL_OF_MANY].map(String::from);
+    let leftovers = [TIE, PAST, ONE_EACH, MANY].map(String::from);
     let by = |by| PROPOSALS.map(|(total, group)| judged(by, total, group));
     let proposals = [ARCHIVE, DEFINITION].into_iter().flat_map(by);
     let reports = AUDITS.map(reported);
     let rare = meetings.chain(apart).chain(jobs).chain(trees);
-    let rare = rare.chain(proposals).chain(reports);
+    let rare = rare.chain(leftovers).chain(proposals).chain(reports);
     unmet.extend(rare.filter(|case| !tally.met.contains(case)));
     unmet
 }

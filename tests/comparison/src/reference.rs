@@ -224,14 +224,28 @@ impl Tree {
         shares
     }
 
+    /// The users of the arc in the order in which its leftover units go to them:
+    /// those with the smallest tally first, of equal ones the lowest number.
+    pub fn in_turn(&self, arc: usize, tallies: &[u64]) -> Vec<usize> {
+        let mut users = self.users[arc].clone();
+        users.sort_by_key(|&j| (tallies[j], j));
+        users
+    }
+
+    /// A tally is the number of leftover units that a member has had so far.
     pub fn by_arc(&self) -> Vec<u64> {
         let mut shares = vec![0; self.members.len()];
+        let mut tallies = vec![0; self.members.len()];
         for arc in self.used() {
-            let users = &self.users[arc];
+            let users = self.in_turn(arc, &tallies);
             let count = users.len() as u64;
-            for (rank, &member) in users.iter().enumerate() {
-                let more = (rank as u64) < self.cost[arc] % count;
-                shares[member] += self.cost[arc] / count + u64::from(more);
+            for &j in &users {
+                shares[j] += self.cost[arc] / count;
+            }
+            let left = self.cost[arc] % count;
+            for &j in &users[..left as usize] {
+                shares[j] += 1;
+                tallies[j] += 1;
             }
         }
         shares

@@ -140,6 +140,8 @@ pub fn compare(tally: &mut Tally) {
     let u = network(&[0, 1, 1], &[7, 0, 0], &[0, 1, 1]);
     by_arc(tally, &u, &[4, 3]);
     level(tally, &u, &[3, 100], Ok(vec![3, 4]));
+    let x = network(&[0, 1, 2, 2], &[1, 1, 0, 0], &[0, 0, 1, 1]);
+    by_arc(tally, &x, &[1, 1]);
     let w = network(&[0, 1, 1, 0], &[10, 1, 1, 8], &[0, 1, 1, 1]);
     proposal(tally, &w, &[7, 7, 6], (0, 2, &[0, 1]));
     spare(tally);

@@ -1,56 +1,62 @@
-use mathlib.Core.Path.{sym, _∙_}
-use Rattle.tree.proofs.Vertices.{vertices-count}
-use Rattle.by_arc.proofs.Split.{split-parts, split-is}
+use mathlib.Core.Path.{_∙_}
 use borrow.Author.Needs.{needs}
+use Rattle.users.proofs.Laid.{user-counts}
+use Rattle.by_arc.proofs.Split.{split-placed, split-is}
 use Rattle.by_arc.proofs.arcs.split_in.Statement.{statement}
 use Rattle.by_arc.proofs.arcs.split_in.Tie as tie
 
--- the start, from where the numbers of users are written, and that place, from where the costs are divided
-abbrev start : tie.After-write-user-counts-arg2 → tie.Start
-start c = c .before .before .before .before .before .before .before .before .before
+-- from a call back to the one before it
+abbrev start : tie.After-write-user-counts → tie.Start
+start c = c .before .before .before .before .before .before .before .before .before .before
 
-abbrev counting : tie.After-divide → tie.After-write-user-counts
-counting c = c .before .before .before .before .before .before .before .before
+abbrev counts : tie.After-write-tallies → tie.After-write-user-counts
+counts c = c .before .before .before .before .before .before .before .before
 
-write-user-counts-requires : tie.Need-write-user-counts-requires
-write-user-counts-requires c κs =
-    let pre = start c .pre in
-    (pre .0, (pre .1 .1 .0, (pre .1 .1 .1 .0, pre .1 .1 .1 .1 .0)))
+abbrev tallies : tie.After-write-parts → tie.After-write-tallies
+tallies c = c .before .before .before .before .before .before
 
-divide-requires : tie.Need-divide-requires
-divide-requires c κs =
+write-tallies-requires : tie.Need-write-tallies-requires
+write-tallies-requires c κs =
     let counted = c .before .before .before .before .before .before .before in
-    let pre = start (counted .before) .pre in
-    let parts = pre .1 .1 .1 .1 .1 in
-    let same = sym (pre .1 .0 .sized) in
-    (counted .write-user-counts .kept .1 .1 .1 .0 ∙ pre .1 .1 .1 .1 .0 ∙ same, (parts .0 ∙ same, parts .1 ∙ same))
+    let pre = start counted .pre in
+    let rest = pre .1 .1 .1 in
+    (pre .0, (pre .1 .0 .sized, (pre .1 .1 .0, (counted .write-user-counts .ensures, (rest .1 .0, rest .1 .1 .0)))))
+
+write-parts-requires : tie.Need-write-parts-requires
+write-parts-requires c κs =
+    let counted = counts (c .before .before .before .before .before) in
+    let pre = start counted .pre in
+    (pre .0, (pre .1 .0, user-counts _ _ (pre .0) (counted .write-user-counts .ensures)))
 
 write-shares-requires : tie.Need-write-shares-requires
 write-shares-requires c κs =
-    let divided = c .before .before .before .before .before .before .before in
-    let counted = counting divided .write-user-counts in
-    let pre = start (counting divided .before) .pre in
-    let parts = split-parts _ _ _ (pre .1 .0) (counted .ensures) (divided .divide .ensures .0)
-    (divided .divide .ensures .1) in
-    (pre .0, (pre .1 .1 .0, (parts, counted .kept .1 .1 .0 ∙ pre .1 .1 .1 .0)))
+    let parted = c .before .before .before .before .before .before in
+    let tallied = tallies parted in
+    let counted = counts tallied in
+    let pre = start counted .pre in (
+      split-placed _ _ _ (pre .0) (pre .1 .0) (pre .1 .1 .0) (tallied .write-tallies .ensures)
+          (counted .write-user-counts .ensures) (parted .write-parts .ensures),
+      counted .write-user-counts .kept .1 .1 .0 ∙ pre .1 .1 .1 .1 .1 .1,
+    )
 
 returns : tie.Need-returns
 returns c =
-    let shared = c .before .before .before .before in
-    let divided = shared .before .before .before .before .before .before .before .before in
-    let counted = counting divided .write-user-counts in
-    let pre = start (counting divided .before) .pre in
-    let one-a-member = counted .kept .1 .1 .0 ∙ pre .1 .1 .1 .0 ∙ vertices-count _ _ (pre .1 .1 .0) in
+    let shared = c .before .before in
+    let parted = shared .before .before .before .before .before .before .before in
+    let tallied = tallies parted in
+    let counted = counts tallied in
+    let pre = start counted .pre in
     shared .write-shares .ensures
-    ∙ split-is _ _ _ (pre .1 .0) (counted .ensures) (divided .divide .ensures .0) (divided .divide .ensures .1)
-    one-a-member
+    ∙ split-is _ _ _ (pre .0) (pre .1 .0) (pre .1 .1 .0) (tallied .write-tallies .ensures)
+    (counted .write-user-counts .ensures) (parted .write-parts .ensures)
 
 pub split-in-spec : {M : Type 1} → statement M
 split-in-spec =
     tie.close
     (tie.spec
-    write-user-counts-requires
-    divide-requires
+    (λ c κs. search needs)
+    write-tallies-requires
+    write-parts-requires
     write-shares-requires
     (λ c. search needs)
     (λ c. search needs)

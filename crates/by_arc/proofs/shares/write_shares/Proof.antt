@@ -1,61 +1,89 @@
-use Prim.Native.Nat.{ℕ, _-_}
-use mathlib.Core.Path.{_≡_, ap}
-use mathlib.Core.List.{List, []}
+use Prim.Native.Nat.{ℕ, _+_, _-_, _/_, _<_}
+use mathlib.Core.Path.{_≡_, ap, ap₂, _∙_}
+use native.Mathlib.Nat.{div-le-self}
 use native.Mathlib.Omega.{arith}
+use borrow.Author.Needs.{needs}
 use lib.ListN.{length, getD}
 use denote.Ref.{now}
-use Rattle.tree.specs.Passes.{Sound, Listed, networkAt}
-use Rattle.tree.proofs.CapPass.{member-in}
-use Rattle.by_arc.specs.Parts.{Parts, sumAbove}
-use Rattle.by_arc.proofs.Serving.{Serving, serving-start, serving-parts, serving-on, serving-end}
-use borrow.Author.Needs.{needs}
+use Rattle.basics.proofs.Filling.{Filling, filling-on}
+use Rattle.basics.proofs.Lists.{entries-are}
+use Rattle.by_arc.specs.Shares.{Placed, shareOf}
 use Rattle.by_arc.proofs.shares.write_shares.Statement.{statement}
 use Rattle.by_arc.proofs.shares.write_shares.Tie as tie
 
 abbrev Inv-loop : tie.InvT-loop
-Inv-loop parents vertices each more₀ shares₀ j₀ more shares j =
-    Sound parents
-    × Listed parents vertices
-    × Parts (length parents) each more₀
-    × (length shares₀ ≡ length vertices)
-    × Serving parents vertices each more₀ shares₀ more shares j
+Inv-loop vertices starts keys parts shares₀ base j₀ shares j =
+    Placed vertices starts keys parts
+    × (base ≡ length vertices)
+    × Filling (length vertices) (shareOf vertices starts keys parts) shares j
 
 abbrev μ-loop : tie.MeasureT-loop
-μ-loop parents vertices each more₀ shares₀ j₀ more shares j = length vertices - j
+μ-loop vertices starts keys parts shares₀ base j₀ shares j = length vertices - j
 
-loop-holds : tie.Need-loop-holds Inv-loop μ-loop
-loop-holds c =
-    let pre = c .before .before .before .before .before .pre in
-    (pre .0, pre .1 .0, pre .1 .1 .0, pre .1 .1 .1, serving-start _ _ _ _ _ (pre .1 .1 .0))
+cast-v : tie.Need-cast-v Inv-loop μ-loop
+cast-v c =
+    let at = c .before .before in
+    omega (arith, at .before .before .before .before .before .shared-slice-known .given (at .loop .j))
 
-cast-share-of : tie.Need-cast-share-of Inv-loop μ-loop
-cast-share-of c = omega (arith, c .shared-slice-known4 .given (c .before .before .before .loop .j))
+at-vertex-requires : tie.Need-at-vertex-requires Inv-loop μ-loop
+at-vertex-requires c κs =
+    let at = c .before .before .loop in
+    at .inv .0 .last (at .j) (c .before .loop-test .taken)
 
-share-of-requires : tie.Need-share-of-requires Inv-loop μ-loop
-share-of-requires c κs =
+-- where the member's key is, as it is read, and that it is in the list
+key-in : (c : tie.After-at-vertex Inv-loop μ-loop)
+    → let start = c .before .before .before .before .before .before .before .before .before in
+    c .at-vertex .result < length (now (start .args .keys))
+key-in c =
     let at = c .before .before .before .loop in
-    let inv = at .inv in
-    let args = c .before .before .before .before .before .before .before .before .before .args in
-    let n = networkAt (now (args .parents)) [] (now (args .vertices)) in
-    let vertex = member-in n (inv .1 .are) (at .j) (omega arith) in
-    (inv .0, (serving-parts _ _ _ _ _ (inv .2) (inv .4), vertex .high))
+    omega (arith, c .at-vertex .ensures, at .inv .0 .keyed (at .j) (c .before .before .loop-test .taken))
+
+mul-tally-of : tie.Need-mul-tally-of Inv-loop μ-loop
+mul-tally-of c =
+    let placed = c .before .before .before .loop .inv .0 in
+    omega (arith, key-in c, placed .kept, placed .few)
+
+at-vertex-requires-2 : tie.Need-at-vertex-requires-2 Inv-loop μ-loop
+at-vertex-requires-2 c κs =
+    let at = c .before .before .before .before .before .loop in
+    at .inv .0 .parted (at .j) (c .before .before .before .before .loop-test .taken)
+
+-- the turn, from its last call
+abbrev turn : tie.After-at-vertex2 Inv-loop μ-loop → tie.In-loop Inv-loop μ-loop
+turn c = c .before .before .before .before .before
+
+add-shares : tie.Need-add-shares Inv-loop μ-loop
+add-shares c =
+    let at = turn c .before in
+    let known = at .before .before .before in
+    let args = known .before .before .before .args in
+    let place = c .before .before .before .at-vertex .result in
+    omega (
+      arith,
+      c .at-vertex2 .ensures,
+      at .loop .inv .0 .limited (at .loop .j) (turn c .loop-test .taken),
+      c .before .tally-of .ensures,
+      div-le-self (getD (now (args .keys)) place 0) (length (now (args .vertices))),
+      known .shared-slice-known3 .given place,
+    )
 
 loop-again : tie.Need-loop-again Inv-loop μ-loop
-unfolding sumAbove
 loop-again c =
-    let at = c .before .before .before .before .before .before .loop in
-    let inv = at .inv in
-    let got = c .before .before .share-of .ensures in
-    let vertex = ap (λ (l : List ℕ). getD l (at .j) 0) (inv .1 .are) in (
-      inv .0,
-      inv .1,
-      inv .2,
-      inv .3,
-      serving-on _ _ _ _ _ (inv .2) (inv .4) (omega arith) _ vertex _ (got .0) (got .1),
+    let at = turn c .before in
+    let args = at .before .before .before .before .before .before .args in
+    let place = c .before .before .before .at-vertex .ensures in (
+      at .loop .inv .0,
+      at .loop .inv .1,
+      filling-on _ _ (at .loop .inv .2) (turn c .loop-test .taken) _
+          (ap₂ (λ (a b : ℕ). a + b) (c .at-vertex2 .ensures)
+          (c .before .tally-of .ensures
+          ∙ ap (λ (p : ℕ). getD (now (args .keys)) p 0 / length (now (args .vertices))) place)),
     )
 
 returns : tie.Need-returns Inv-loop μ-loop
-returns c = let inv = c .before .loop .inv in serving-end _ _ _ _ _ (inv .2) (inv .4) (omega arith)
+returns c =
+    let filled = c .before .loop .inv .2 in
+    entries-are _ 0 _ _ (filled .kept) (λ j h. filled .filled j (omega (arith, c .loop-test .left)))
 
 pub write-shares-spec : {M : Type 1} → statement M
 write-shares-spec =
@@ -63,16 +91,22 @@ write-shares-spec =
     (tie.spec
     Inv-loop
     μ-loop
-    loop-holds
     (λ c. search needs)
     (λ c. search needs)
-    cast-share-of
-    share-of-requires
+    (λ c. search needs)
+    (λ c. search needs)
+    cast-v
+    at-vertex-requires
+    mul-tally-of
+    (λ c. key-in (c .before))
+    (λ c κs. search needs)
+    at-vertex-requires-2
+    (λ c. search needs)
+    add-shares
     (λ c. search needs)
     (λ c. search needs)
     (λ c. search needs)
     (λ c. search needs)
     loop-again
-    (λ c. search needs)
     (λ c. search needs)
     returns)

@@ -1,0 +1,3 @@
+pub mod Served
+mod Loops
+mod Narrowing

@@ -1,0 +1,2 @@
+pub mod Keys
+pub mod Bound
