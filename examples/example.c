@@ -1,4 +1,5 @@
-/* Audits and splits the tree T of docs/SPECIFICATION.md, §10, with a member at every dead end, then with one spare. */
+/* Audits and splits the tree T of docs/SPECIFICATION.md, §10, with a member at every dead end, then with one spare; then
+ * somebody arrives there. */
 #include "zilqodur.h"
 
 #include <inttypes.h>
@@ -74,6 +75,18 @@ static void by_arc(size_t members) {
     printf("\n");
 }
 
+/* The shares after the event; a refused event leaves the state as it is. */
+static void arrive(ZilqodurStateAnswer *a, size_t vertex) {
+    const ZilqodurEvent event = {vertex, ZILQODUR_ARRIVE, 0};
+    *a = zilqodur_apply_event(a->state, event);
+    if (a->refusal != ZILQODUR_NO_REFUSAL) {
+        print_refusal("arrive", a->refusal, a->place);
+    } else {
+        print_shares("arrive", a->state.shares, a->members);
+    }
+    printf("\n");
+}
+
 int main(void) {
     ZilqodurMembers m = zilqodur_mark_dead_ends(parents, ARCS, costs, ARCS, marks, ARCS);
     if (m.refusal != ZILQODUR_NO_REFUSAL) {
@@ -90,5 +103,8 @@ int main(void) {
     by_arc(m.members);
     marks[2] = 0; /* vertex 3 is a plot that is not yet sold: nobody pays for its arc */
     by_arc(m.members - 1);
+    ZilqodurStateAnswer a = zilqodur_make_state(parents, ARCS, costs, ARCS, marks, ARCS);
+    arrive(&a, 3); /* the plot is sold */
+    arrive(&a, 3);
     return 0;
 }

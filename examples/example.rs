@@ -1,5 +1,5 @@
-// Audits and splits the tree T of docs/SPECIFICATION.md, §10, with a member at every dead end, then with one spare. The
-// declarations are those of include/zilqodur.h.
+// Audits and splits the tree T of docs/SPECIFICATION.md, §10, with a member at every dead end, then with one spare; then
+// somebody arrives there. The declarations are those of include/zilqodur.h.
 
 #[repr(C)]
 struct ZilqodurMembers {
@@ -32,6 +32,30 @@ struct ZilqodurLevel {
     place: usize,
     shortfall: u64,
     members: usize,
+}
+
+#[repr(C)]
+struct ZilqodurState {
+    arcs: usize,
+    parents: [u16; 1023],
+    costs: [u32; 1023],
+    marks: [u16; 1023],
+    shares: [u64; 1023],
+}
+
+#[repr(C)]
+struct ZilqodurEvent {
+    vertex: usize,
+    kind: u32,
+    amount: u32,
+}
+
+#[repr(C)]
+struct ZilqodurStateAnswer {
+    refusal: u32,
+    place: usize,
+    members: usize,
+    state: ZilqodurState,
 }
 
 #[link(name = "capi", kind = "static")]
@@ -90,12 +114,24 @@ unsafe extern "C" {
         out: *mut u64,
         out_count: usize,
     ) -> ZilqodurMembers;
+
+    fn zilqodur_make_state(
+        parents: *const u16,
+        parents_count: usize,
+        costs: *const u32,
+        costs_count: usize,
+        marks: *const u16,
+        marks_count: usize,
+    ) -> ZilqodurStateAnswer;
+
+    fn zilqodur_apply_event(state: ZilqodurState, event: ZilqodurEvent) -> ZilqodurStateAnswer;
 }
 
 const ADDS_UP: u32 = 1;
 const OFF: u32 = 2;
 const NO_GROUP: u32 = 1;
 const GROUP: u32 = 2;
+const ARRIVE: u32 = 0;
 
 const PARENTS: [u16; 4] = [0, 1, 1, 0];
 const COSTS: [u32; 4] = [6, 1, 5, 4];
@@ -180,6 +216,25 @@ fn split_by_arc(marks: &[u16], out: &mut [u64]) -> ZilqodurMembers {
     }
 }
 
+fn make_state(marks: &[u16]) -> ZilqodurStateAnswer {
+    // Safety: each pointer and count are those of one slice, and nothing is written.
+    unsafe {
+        zilqodur_make_state(
+            PARENTS.as_ptr(),
+            PARENTS.len(),
+            COSTS.as_ptr(),
+            COSTS.len(),
+            marks.as_ptr(),
+            marks.len(),
+        )
+    }
+}
+
+fn apply_event(state: ZilqodurState, event: ZilqodurEvent) -> ZilqodurStateAnswer {
+    // Safety: both are handed over by value.
+    unsafe { zilqodur_apply_event(state, event) }
+}
+
 fn joined(numbers: &[u64]) -> String {
     numbers.iter().map(|n| format!(" {n}")).collect()
 }
@@ -228,6 +283,22 @@ fn print_by_arc(marks: &[u16], members: usize) {
     }
 }
 
+/// The shares after the event; a refused event leaves the state as it is.
+fn arrive(state: ZilqodurState, vertex: usize) -> ZilqodurState {
+    let event = ZilqodurEvent {
+        vertex,
+        kind: ARRIVE,
+        amount: 0,
+    };
+    let a = apply_event(state, event);
+    if a.refusal != 0 {
+        println!("arrive refused {} at {}", a.refusal, a.place);
+    } else {
+        println!("arrive{}", joined(&a.state.shares[..a.members]));
+    }
+    a.state
+}
+
 fn main() {
     let mut marks = [0; 4];
     let m = mark_dead_ends(&mut marks);
@@ -245,4 +316,7 @@ fn main() {
     // Vertex 3 is a plot that is not yet sold: nobody pays for its arc.
     marks[2] = 0;
     print_by_arc(&marks, m.members - 1);
+    // The plot is sold.
+    let state = arrive(make_state(&marks).state, 3);
+    arrive(state, 3);
 }

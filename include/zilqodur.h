@@ -8,9 +8,11 @@
  *
  * Group. Sixteen 64-bit words: member j is bit j % 64 of word j / 64, bit 0 being the least significant.
  *
- * Answer. Each function answers a struct. `refusal` is 0 where there is none, else one of enum ZilqodurRefusal; `place` is the arc, member
- * or bit where the fault stands, 0 for a number without a place. A field for which the answer has no value is 0. So after a refusal
- * every field but `refusal` and `place` is 0, except `shortfall` with refusal 9.
+ * State. A tree and its by-arc split by value, as the caller keeps them from one event to the next: struct ZilqodurState.
+ *
+ * Answer. Each function answers a struct. `refusal` is 0 where there is none, else one of enum ZilqodurRefusal; `place` is the arc, vertex,
+ * member or bit where the fault stands, 0 for a number without a place. A field for which the answer has no value is 0. So after a refusal
+ * every field but `refusal` and `place` is 0, except `shortfall` with refusal 9, and `state` after a refused event, which is as it came.
  *
  * Lists. A list is a pointer and the number of its elements. A function writes only to its lists without `const`, and to none of them
  * when it refuses. Any numbers may stand in a list; what a function cannot use it refuses.
@@ -20,7 +22,9 @@
  *   - a list has at least as many elements as its number says, `group` sixteen words, a report's `out` ZILQODUR_REPORT_ROOM bytes;
  *   - no two lists of one call overlap;
  *   - nobody else writes to the lists during the call;
- *   - 100,000 bytes of the stack are free. zilqodur_report takes 93,000 of them, every other function at most 40,000.
+ *   - 200,000 bytes of the stack are free for zilqodur_apply_event and zilqodur_make_state, which take 180,000 and 132,000 of them, and
+ *     100,000 for the others, of which zilqodur_report takes 93,000, every other function at most 40,000. A state is 16,384 bytes, wherever
+ *     it is handed over or comes back; those bytes are counted in.
  *
  * No function keeps anything between calls, allocates memory or does input or output; calls from several threads are safe. Link with
  * target/staticlib/libcapi.a (x86-64 Linux). */
@@ -56,7 +60,9 @@ enum ZilqodurRefusal {
     ZILQODUR_MARK_CHILD = 17, /* [arc] */
     ZILQODUR_NO_MARK = 18,
     ZILQODUR_NOTE_LENGTH = 19,
-    ZILQODUR_JOB_SPACE = 20
+    ZILQODUR_JOB_SPACE = 20,
+    ZILQODUR_EVENT_VERTEX = 21, /* [vertex] */
+    ZILQODUR_EVENT_MARK = 22 /* [vertex] */
 };
 
 /* What a refusal's number says, as a sentence for a person. The strings are constants; nobody frees them. */
@@ -83,11 +89,14 @@ static inline const char *zilqodur_refusal_text(uint32_t refusal) {
         case ZILQODUR_NO_MARK: return "no vertex is marked";
         case ZILQODUR_NOTE_LENGTH: return "the note is longer than 255 bytes";
         case ZILQODUR_JOB_SPACE: return "the output is shorter than the job";
+        case ZILQODUR_EVENT_VERTEX: return "the event's vertex is 0, or above the number of arcs";
+        case ZILQODUR_EVENT_MARK: return "arrive at a vertex whose mark is 1, or leave at one whose mark is 0";
         default: return "no refusal has this number";
     }
 }
 
-/* The greatest number of arcs, and so of members, of a tree: the entries that zilqodur_read_job asks of each of its four lists. */
+/* The greatest number of arcs, and so of members, of a tree: the entries of each list of a state, and those that zilqodur_read_job asks
+ * of each of its four lists. */
 #define ZILQODUR_MOST_ARCS 1023
 
 /* The number of bytes of the longest job: in `out` of zilqodur_write_job they are room for every job. */
@@ -161,6 +170,36 @@ typedef struct ZilqodurLevel {
     uint64_t shortfall; /* refusal 9: the arc's need less what the caps of its users add up to */
     size_t members;     /* the number of members */
 } ZilqodurLevel;
+
+/* A tree and its by-arc split. zilqodur_make_state makes one, and zilqodur_apply_event makes the next one of it. The tree is the first
+ * `arcs` entries of `parents`, `costs` and `marks`; `shares` has one share a member. All other entries of a state that was made are 0. The
+ * bytes between two fields say nothing: states are compared field by field. */
+typedef struct ZilqodurState {
+    size_t arcs; /* the number of arcs */
+    uint16_t parents[ZILQODUR_MOST_ARCS];
+    uint32_t costs[ZILQODUR_MOST_ARCS];
+    uint16_t marks[ZILQODUR_MOST_ARCS];
+    uint64_t shares[ZILQODUR_MOST_ARCS]; /* entry 0 is the share of member 0 */
+} ZilqodurState;
+
+enum ZilqodurEventKind {
+    ZILQODUR_ARRIVE = 0,  /* sets the vertex's mark to 1 */
+    ZILQODUR_LEAVE = 1,   /* sets it to 0 */
+    ZILQODUR_NEW_COST = 2 /* replaces the cost of the arc that enters the vertex by `amount` */
+};
+
+typedef struct ZilqodurEvent {
+    size_t vertex;
+    uint32_t kind;   /* one of enum ZilqodurEventKind; every other number is a new cost too */
+    uint32_t amount; /* the new cost; not looked at where the kind is arrive or leave */
+} ZilqodurEvent;
+
+typedef struct ZilqodurStateAnswer {
+    uint32_t refusal;
+    size_t place;
+    size_t members; /* the number of members of `state`; 0 in a refusal */
+    ZilqodurState state;
+} ZilqodurStateAnswer;
 
 typedef struct ZilqodurJob {
     uint32_t refusal;
@@ -244,6 +283,19 @@ ZilqodurLevel zilqodur_split_level(const uint16_t *parents, size_t parents_count
  * passed over. `out` has one entry a member. Refusals: the tree's, 8. */
 ZilqodurMembers zilqodur_split_by_arc(const uint16_t *parents, size_t parents_count, const uint32_t *costs, size_t costs_count,
                                       const uint16_t *marks, size_t marks_count, uint64_t *out, size_t out_count);
+
+/* Makes the state of a tree, with the shares that zilqodur_split_by_arc writes. Where the tree is refused, `state` is 0 throughout.
+ * Refusals: the tree's. */
+ZilqodurStateAnswer zilqodur_make_state(const uint16_t *parents, size_t parents_count, const uint32_t *costs, size_t costs_count,
+                                        const uint16_t *marks, size_t marks_count);
+
+/* Carries out an event: `state` is the one that zilqodur_make_state makes of the tree that the event reaches. Any state, vertex, kind and
+ * amount may be handed over; entries past the first `arcs` are not looked at, and the shares never. A refused event changes nothing:
+ * `state` is as it came, every entry of it, also where it was not made by these functions. From a state that was made, arrive, where it
+ * is not refused, and then leave at the same vertex gives the state before; so does leave and then arrive. Refusals, in this order: of
+ * the state's tree 1 on `arcs`, then 3, 4, 16 and 17 arc by arc, then 18; then 21, 22; then of the tree that the event would reach 17, 18
+ * and 4, of which 17 and 4 are at the vertex. */
+ZilqodurStateAnswer zilqodur_apply_event(ZilqodurState state, ZilqodurEvent event);
 
 /* Reads a job's bytes into the front of the four lists and keeps their other entries. Each list has at least ZILQODUR_MOST_ARCS entries.
  * A job has four parts, each beginning where the one before it ends. Numbers are little-endian; their widths in bytes stand in brackets.

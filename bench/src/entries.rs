@@ -1,6 +1,7 @@
 //! Each entry of the archive beside the same in Rust: answers and lists
 //! compared, or the time of a call taken.
 
+use crate::ffi::ZilqodurEvent;
 use crate::job::Job;
 use crate::measure::medians;
 use crate::networks::Network;
@@ -9,9 +10,9 @@ use crate::{best, ffi, same};
 use std::hint::black_box;
 
 #[rustfmt::skip]
-pub const ENTRIES: [&str; 10] = [
+pub const ENTRIES: [&str; 12] = [
     "needs", "total", "group search", "by-arc", "level", "job reader", "dead ends", "cap sums",
-    "job length", "job writer",
+    "job length", "job writer", "make state", "apply event",
 ];
 
 pub const LEVEL: usize = 4;
@@ -112,6 +113,7 @@ pub fn compare(n: &Network) {
         written(p.len(), |out| same::list_cap_sums(p, c, m, caps, out)),
     );
     compare_jobs(n);
+    compare_states(n);
 }
 
 /// The network's proposal, which adds up, and with a unit less and more from each member.
@@ -140,6 +142,30 @@ fn compare_jobs(n: &Network) {
         written(n.bytes.len(), |out| write(ffi::write_job, &n.job, out)),
         written(n.bytes.len(), |out| write(same::write_job, &n.job, out)),
     );
+}
+
+/// A new cost, at most half the old one, of the first member's own arc.
+fn cheaper(n: &Network) -> ZilqodurEvent {
+    let first = n.marks.iter().position(|&mark| mark == 1);
+    let first = first.expect("somebody is a member");
+    ZilqodurEvent {
+        vertex: first + 1,
+        kind: 2,
+        amount: n.costs[first] / 2,
+    }
+}
+
+/// The state, and events of each kind at the first member's vertex.
+fn compare_states(n: &Network) {
+    let made = ffi::make_state(&n.parents, &n.costs, &n.marks);
+    let same = same::make_state(&n.parents, &n.costs, &n.marks);
+    assert!(made == same, "the states made differ");
+    for kind in 0..3 {
+        let event = ZilqodurEvent { kind, ..cheaper(n) };
+        let next = ffi::apply_event(&made.state, event);
+        let same = same::apply_event(&made.state, event);
+        assert!(next == same, "the states after an event differ");
+    }
 }
 
 /// Keeps the compiler from leaving out a call whose answer nobody reads.
@@ -236,10 +262,29 @@ fn job_writer(n: &Network) -> Calls<'_> {
     ]
 }
 
+fn make_state(n: &Network) -> Calls<'_> {
+    let (p, c, m) = (&n.parents[..], &n.costs[..], &n.marks[..]);
+    vec![
+        Box::new(move || used(ffi::make_state(black_box(p), c, m))),
+        Box::new(move || used(same::make_state(black_box(p), c, m))),
+    ]
+}
+
+fn apply_event(n: &Network) -> Calls<'_> {
+    let state = ffi::make_state(&n.parents, &n.costs, &n.marks).state;
+    let event = cheaper(n);
+    vec![
+        Box::new(move || used(ffi::apply_event(black_box(&state), event))),
+        Box::new(move || used(same::apply_event(black_box(&state), event))),
+    ]
+}
+
 /// The calls of each entry, in the order of their names.
 #[rustfmt::skip]
-const CALLS: [fn(&Network) -> Calls<'_>; 10] =
-    [needs, total, search, by_arc, level, job, dead_ends, cap_sums, job_length, job_writer];
+const CALLS: [fn(&Network) -> Calls<'_>; 12] = [
+    needs, total, search, by_arc, level, job, dead_ends, cap_sums, job_length, job_writer,
+    make_state, apply_event,
+];
 
 /// The times of one entry on each of the networks.
 pub fn measure(entry: usize, networks: &[Network]) -> Vec<Times> {

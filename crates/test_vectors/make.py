@@ -77,6 +77,18 @@ from writes import (
     write_notes,
     write_order,
 )
+from events import (
+    far_vertices,
+    made_states,
+    random_events,
+    refused_makings,
+    single_events,
+    smallest_and_largest,
+    there_and_back,
+    unused_costs,
+)
+from raw_states import arc_counts, event_order, faulty_states, last_faults, past_arcs, random_states
+from stated_events import STATED_EVENTS
 from unreadable import UNREADABLE
 
 
@@ -161,6 +173,7 @@ STATED = [
     (("write", b"", *T_VALUES, 95), "length 96, refused 20 at 0; others kept"),
     (("write", bytes(256), *T_VALUES, 352), "refused 19 at 0, refused 19 at 0; others kept"),
     (("write", b"", [0, 2], [LARGE, 1], [], [], 0), "refused 4 at 1, refused 4 at 1; others kept"),
+    *STATED_EVENTS,
 ]
 
 PARTS = [
@@ -227,6 +240,20 @@ PARTS = [
     large_writes,
     write_order,
     random_writes,
+    made_states,
+    refused_makings,
+    single_events,
+    far_vertices,
+    unused_costs,
+    there_and_back,
+    smallest_and_largest,
+    random_events,
+    arc_counts,
+    past_arcs,
+    last_faults,
+    faulty_states,
+    event_order,
+    random_states,
 ]
 
 MOST_INPUT = 6 << 20

@@ -110,11 +110,24 @@ static int is_report(ZilqodurReport found, uint32_t refusal, size_t place, size_
            offsetof(ZilqodurReport, place) == 8;
 }
 
+static int same_states(const ZilqodurState *a, const ZilqodurState *b) {
+    return IS(a->arcs, b->arcs) && memcmp(a->parents, b->parents, sizeof a->parents) == 0 &&
+           memcmp(a->costs, b->costs, sizeof a->costs) == 0 && memcmp(a->marks, b->marks, sizeof a->marks) == 0 &&
+           memcmp(a->shares, b->shares, sizeof a->shares) == 0;
+}
+
+static int is_state(ZilqodurStateAnswer found, uint32_t refusal, size_t place, size_t members, ZilqodurState state) {
+    return IS(found.refusal, refusal) && IS(found.place, place) && IS(found.members, members) && same_states(&found.state, &state);
+}
+
 /* No struct is larger than the archive's. */
 static void sizes(void) {
     EXPECT(sizeof(ZilqodurCheck) == 16 && sizeof(ZilqodurMembers) == 24 && sizeof(ZilqodurNeeds) == 32 && sizeof(ZilqodurGroup) == 32);
     EXPECT(sizeof(ZilqodurTotal) == 32 && sizeof(ZilqodurSearch) == 168 && sizeof(ZilqodurCapSums) == 24 && sizeof(ZilqodurLevel) == 32);
     EXPECT(sizeof(ZilqodurJob) == 40 && sizeof(ZilqodurJobLength) == 24 && sizeof(ZilqodurReport) == 24);
+    EXPECT(sizeof(ZilqodurState) == 16384 && sizeof(ZilqodurEvent) == 16 && sizeof(ZilqodurStateAnswer) == 16384 + 24);
+    EXPECT(offsetof(ZilqodurState, parents) == 8 && offsetof(ZilqodurState, costs) == 2056 && offsetof(ZilqodurState, marks) == 6148 &&
+           offsetof(ZilqodurState, shares) == 8200);
 }
 
 static int are(const uint64_t *list, uint64_t a, uint64_t b, uint64_t c) {
@@ -295,6 +308,94 @@ static void spare(void) {
     out[0] = out[1] = 0;
     EXPECT(is_members(zilqodur_split_by_arc(T(some), out, 2), ZILQODUR_NO_REFUSAL, 0, 2));
     EXPECT(are(out, 7, 4, 0) && out[3] == 4);
+}
+
+/* The state of T with these costs and marks, and with these shares. */
+static ZilqodurState t_state(const uint32_t *own_costs, const uint16_t *own_marks, uint64_t a, uint64_t b, uint64_t c) {
+    static ZilqodurState state;
+    state.arcs = ARCS;
+    memcpy(state.parents, parents, sizeof parents);
+    memcpy(state.costs, own_costs, sizeof costs);
+    memcpy(state.marks, own_marks, sizeof marks);
+    state.shares[0] = a, state.shares[1] = b, state.shares[2] = c;
+    return state;
+}
+
+/* A refused tree gives a state that is 0 throughout. */
+static void states(void) {
+    static ZilqodurState none;
+    EXPECT(is_state(zilqodur_make_state(T(marks)), ZILQODUR_NO_REFUSAL, 0, MEMBERS, t_state(costs, marks, 4, 8, 4)));
+    EXPECT(is_state(zilqodur_make_state(parents, 0, costs, 0, marks, ARCS), ZILQODUR_ARC_COUNT, 0, 0, none));
+    EXPECT(is_state(zilqodur_make_state(parents, ARCS, costs, ARCS, marks, ARCS - 1), ZILQODUR_TREE_LENGTHS, 0, 0, none));
+    EXPECT(is_state(zilqodur_make_state(wrong_parents, ARCS, costs, ARCS, marks, ARCS), ZILQODUR_PARENT, 2, 0, none));
+    EXPECT(is_state(zilqodur_make_state(parents, ARCS, wrong_costs, ARCS, marks, ARCS), ZILQODUR_COST, 3, 0, none));
+    EXPECT(is_state(zilqodur_make_state(T(wrong_marks)), ZILQODUR_MARK, 3, 0, none));
+    EXPECT(is_state(zilqodur_make_state(T(inner_marks)), ZILQODUR_MARK_CHILD, 1, 0, none));
+    EXPECT(is_state(zilqodur_make_state(T(no_marks)), ZILQODUR_NO_MARK, 0, 0, none));
+}
+
+static ZilqodurStateAnswer after(ZilqodurState state, size_t vertex, uint32_t kind, uint32_t amount) {
+    ZilqodurEvent event;
+    event.vertex = vertex, event.kind = kind, event.amount = amount;
+    return zilqodur_apply_event(state, event);
+}
+
+/* The amount matters to a new cost alone, which every kind is but two. */
+static void events(void) {
+    static const uint16_t spare_marks[ARCS] = {0, 1, 0, 1};
+    static const uint32_t dear[ARCS] = {6, 1, 1000000000, 4}, dearer[ARCS] = {13, 1, 5, 4};
+    const ZilqodurState whole = t_state(costs, marks, 4, 8, 4), spare = t_state(costs, spare_marks, 7, 4, 0);
+    EXPECT(is_state(after(whole, 3, ZILQODUR_LEAVE, UINT32_MAX), ZILQODUR_NO_REFUSAL, 0, 2, spare));
+    EXPECT(is_state(after(spare, 3, ZILQODUR_ARRIVE, UINT32_MAX), ZILQODUR_NO_REFUSAL, 0, MEMBERS, whole));
+    EXPECT(is_state(after(spare, 3, ZILQODUR_NEW_COST, 1000000000), ZILQODUR_NO_REFUSAL, 0, 2, t_state(dear, spare_marks, 7, 4, 0)));
+    EXPECT(is_state(after(whole, 1, ZILQODUR_NEW_COST, 13), ZILQODUR_NO_REFUSAL, 0, MEMBERS, t_state(dearer, marks, 8, 11, 4)));
+    EXPECT(is_state(after(whole, 1, UINT32_MAX, 13), ZILQODUR_NO_REFUSAL, 0, MEMBERS, t_state(dearer, marks, 8, 11, 4)));
+    EXPECT(is_state(after(whole, 1, ZILQODUR_NEW_COST, 6), ZILQODUR_NO_REFUSAL, 0, MEMBERS, whole));
+}
+
+/* The event is refused, and the state is given back as it is. */
+#define EXPECT_KEPT(state, vertex, kind, amount, refusal, place) \
+    EXPECT(is_state(after(state, vertex, kind, amount), refusal, place, 0, state))
+
+static void refused_events(void) {
+    static const uint16_t one[ARCS] = {0, 0, 0, 1};
+    const ZilqodurState whole = t_state(costs, marks, 4, 8, 4), last = t_state(costs, one, 4, 0, 0);
+    EXPECT_KEPT(whole, 0, ZILQODUR_NEW_COST, 1000000001, ZILQODUR_EVENT_VERTEX, 0);
+    EXPECT_KEPT(whole, 5, ZILQODUR_LEAVE, 0, ZILQODUR_EVENT_VERTEX, 5);
+    EXPECT_KEPT(whole, SIZE_MAX, ZILQODUR_ARRIVE, 0, ZILQODUR_EVENT_VERTEX, SIZE_MAX);
+    EXPECT_KEPT(whole, 2, ZILQODUR_ARRIVE, 0, ZILQODUR_EVENT_MARK, 2);
+    EXPECT_KEPT(whole, 1, ZILQODUR_LEAVE, 0, ZILQODUR_EVENT_MARK, 1);
+    EXPECT_KEPT(whole, 1, ZILQODUR_ARRIVE, 0, ZILQODUR_MARK_CHILD, 1);
+    EXPECT_KEPT(last, 4, ZILQODUR_LEAVE, 0, ZILQODUR_NO_MARK, 0);
+    EXPECT_KEPT(whole, 2, ZILQODUR_NEW_COST, 1000000001, ZILQODUR_COST, 2);
+}
+
+/* States that no function made. Each event has a fault too, which comes after those of the state. */
+static void raw_states(void) {
+    static const size_t counts[] = {0, ZILQODUR_MOST_ARCS + 1, SIZE_MAX};
+    const ZilqodurState whole = t_state(costs, marks, 4, 8, 4);
+    ZilqodurState raw;
+    size_t i;
+    memset(&raw, 0xEE, sizeof raw);
+    for (i = 0; i < sizeof counts / sizeof counts[0]; i++) {
+        raw.arcs = counts[i];
+        EXPECT_KEPT(raw, 0, ZILQODUR_ARRIVE, 0, ZILQODUR_ARC_COUNT, 0);
+    }
+    raw.arcs = ARCS;
+    memcpy(raw.costs, wrong_costs, sizeof costs);
+    memcpy(raw.marks, wrong_marks, sizeof marks);
+    EXPECT_KEPT(raw, 0, ZILQODUR_ARRIVE, 0, ZILQODUR_PARENT, 1);
+    memcpy(raw.parents, parents, sizeof parents);
+    EXPECT_KEPT(raw, 0, ZILQODUR_ARRIVE, 0, ZILQODUR_COST, 3);
+    memcpy(raw.costs, costs, sizeof costs);
+    EXPECT_KEPT(raw, 0, ZILQODUR_ARRIVE, 0, ZILQODUR_MARK, 3);
+    memcpy(raw.marks, inner_marks, sizeof marks);
+    EXPECT_KEPT(raw, 1, ZILQODUR_ARRIVE, 0, ZILQODUR_MARK_CHILD, 1);
+    memcpy(raw.marks, no_marks, sizeof marks);
+    EXPECT_KEPT(raw, 1, ZILQODUR_LEAVE, 0, ZILQODUR_NO_MARK, 0);
+    memcpy(raw.marks, marks, sizeof marks);
+    EXPECT_KEPT(raw, 5, ZILQODUR_NEW_COST, 6, ZILQODUR_EVENT_VERTEX, 5);
+    EXPECT(is_state(after(raw, 1, ZILQODUR_NEW_COST, 6), ZILQODUR_NO_REFUSAL, 0, MEMBERS, whole));
 }
 
 static void put(uint8_t *at, uint64_t number, int width) {
@@ -529,6 +630,27 @@ static void largest(void) {
     EXPECT(out[0] == 2000000000000 && out[m - 1] == 2000000000000);
 }
 
+/* A star of arcs of the greatest cost fills every list of its state. */
+static void largest_state(void) {
+    static ZilqodurState star;
+    const size_t m = ZILQODUR_MOST_ARCS;
+    ZilqodurState less;
+    size_t i;
+    star.arcs = m;
+    for (i = 0; i < m; i++) {
+        star.costs[i] = 1000000000;
+        star.marks[i] = 1;
+        star.shares[i] = 1000000000;
+    }
+    less = star;
+    less.marks[m - 1] = 0;
+    less.shares[m - 1] = 0;
+    EXPECT(is_state(zilqodur_make_state(star.parents, m, star.costs, m, star.marks, m), ZILQODUR_NO_REFUSAL, 0, m, star));
+    EXPECT(is_state(after(star, m, ZILQODUR_LEAVE, 0), ZILQODUR_NO_REFUSAL, 0, m - 1, less));
+    EXPECT(is_state(after(less, m, ZILQODUR_ARRIVE, 0), ZILQODUR_NO_REFUSAL, 0, m, star));
+    EXPECT_KEPT(star, m + 1, ZILQODUR_LEAVE, 0, ZILQODUR_EVENT_VERTEX, m + 1);
+}
+
 /* The same star with all shares at one end of their range: all members together overpay, or nobody does. */
 static void ends_of_range(void) {
     static uint16_t star[ZILQODUR_MOST_ARCS], all[ZILQODUR_MOST_ARCS];
@@ -555,11 +677,11 @@ static void ends_of_range(void) {
 static void texts(void) {
     const char *other = zilqodur_refusal_text(UINT32_MAX);
     uint32_t a, b;
-    for (a = ZILQODUR_NO_REFUSAL; a <= ZILQODUR_JOB_SPACE; a++) {
+    for (a = ZILQODUR_NO_REFUSAL; a <= ZILQODUR_EVENT_MARK; a++) {
         EXPECT(strcmp(zilqodur_refusal_text(a), other) != 0);
         for (b = ZILQODUR_NO_REFUSAL; b < a; b++) EXPECT(strcmp(zilqodur_refusal_text(a), zilqodur_refusal_text(b)) != 0);
     }
-    EXPECT(strcmp(zilqodur_refusal_text(ZILQODUR_JOB_SPACE + 1), other) == 0);
+    EXPECT(strcmp(zilqodur_refusal_text(ZILQODUR_EVENT_MARK + 1), other) == 0);
     EXPECT(strcmp(zilqodur_refusal_text(ZILQODUR_PARENT), "a parent is not below its arc's number") == 0);
 }
 
@@ -580,6 +702,10 @@ int main(int argc, char **argv) {
     level_splits();
     by_arc_splits();
     spare();
+    states();
+    events();
+    refused_events();
+    raw_states();
     jobs();
     wrong_jobs();
     written_job(0);
@@ -590,6 +716,7 @@ int main(int argc, char **argv) {
     sample_file(argc == 2 ? argv[1] : "");
     reports();
     largest();
+    largest_state();
     ends_of_range();
     return failures > 0;
 }

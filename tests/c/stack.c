@@ -14,19 +14,22 @@
 #define ARCS ZILQODUR_MOST_ARCS
 #define NOTE 255
 
-/* What the header asks a caller to have free, and what it says of the report and of every other function. */
-#define ASKED 100000
+/* What the header asks a caller to have free, and what it says of single functions and of every other. */
+#define ASKED 200000
+#define EVENT 180000
+#define MAKE 132000
 #define REPORT 93000
 #define OTHER 40000
 
 /* The bytes below the stack, which may not be touched, are more than a frame has, so that none reaches past them. */
 #define GUARD (1 << 20)
-#define STACK (1 << 17)
+#define STACK (1 << 18)
 
 static uint16_t parents[ARCS], marks[ARCS], vertices[ARCS];
 static uint32_t costs[ARCS];
 static uint64_t caps[ARCS], out[ARCS], group[16];
 static int64_t proposal[ARCS];
+static ZilqodurState state;
 static uint8_t note[NOTE], job[ZILQODUR_MOST_JOB_BYTES], text[ZILQODUR_REPORT_ROOM];
 static size_t members, job_bytes;
 
@@ -82,6 +85,15 @@ static uint32_t split_by_arc(void) {
     return zilqodur_split_by_arc(parents, ARCS, costs, ARCS, marks, ARCS, out, members).refusal;
 }
 
+static uint32_t make_state(void) {
+    return zilqodur_make_state(parents, ARCS, costs, ARCS, marks, ARCS).refusal;
+}
+
+static uint32_t apply_event(void) {
+    static const ZilqodurEvent cheaper = {1, ZILQODUR_NEW_COST, 999999999};
+    return zilqodur_apply_event(state, cheaper).refusal;
+}
+
 static uint32_t read_job(void) {
     return zilqodur_read_job(job, job_bytes, parents, ARCS, costs, ARCS, caps, ARCS, proposal, ARCS).refusal;
 }
@@ -120,6 +132,8 @@ static const struct {
     {"zilqodur_list_cap_sums", list_cap_sums, OTHER},
     {"zilqodur_split_level", split_level, OTHER},
     {"zilqodur_split_by_arc", split_by_arc, OTHER},
+    {"zilqodur_make_state", make_state, MAKE},
+    {"zilqodur_apply_event", apply_event, EVENT},
     {"zilqodur_read_job", read_job, OTHER},
     {"zilqodur_job_length", job_length, OTHER},
     {"zilqodur_write_job", write_job, OTHER},
@@ -132,8 +146,8 @@ static uint32_t (*call)(void);
 static uint32_t refusal;
 
 /* Runs on the stack whose lowest byte is known, and takes all of it but the free bytes. What this function and the one
- * that it calls put there comes out of these, at most some 250 bytes, so that no more is free when the archive is
- * called. */
+ * that it calls put there comes out of these, at most some 250 bytes besides the states that are handed over and come
+ * back, so that no more is free when the archive is called. */
 static void call_with_free_bytes(void) {
     char here;
     volatile char *taken = alloca((size_t)(&here - lowest) - free_bytes);
@@ -188,6 +202,7 @@ static void write_lists(void) {
     for (i = 0; i < members; i++) {
         group[i / 64] |= UINT64_C(1) << (i % 64);
     }
+    state = zilqodur_make_state(parents, ARCS, costs, ARCS, marks, ARCS).state;
     write_job();
 }
 

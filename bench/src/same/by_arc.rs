@@ -86,7 +86,7 @@ fn split(parents: &[u16], costs: &[u32], vertices: &[u16], out: &mut [u64]) {
     }
 }
 
-fn checked(parents: &[u16], costs: &[u32], marks: &[u16], out: &mut [u64]) -> Answer<usize> {
+pub fn checked(parents: &[u16], costs: &[u32], marks: &[u16], out: &mut [u64]) -> Answer<usize> {
     check_tree(parents, costs, marks)?;
     let (mut vertices, mut counted) = ([0; ARCS], [0; ARCS]);
     let counted = &mut counted[..parents.len()];

@@ -1,7 +1,6 @@
 -- What a check finds, and what an entry answers: its value, or a refusal by number and place.
 use Prim.Native.Nat.{ℕ}
 use mathlib.Core.Bool.{Bool, true, false}
-use mathlib.Core.List.{List}
 
 pub data Check : Type 0 where
   accepted : Check
@@ -27,7 +26,7 @@ abbrev pub answer : {A : Type 0} → Check → A → Answer A
 answer accepted x = value x
 answer (refused number place) x = refusal number place
 
--- a lent list afterwards: a refusal leaves it as it came
-abbrev pub written : {A : Type 0} → Check → List A → List A → List A
+-- a lent list, or a state, afterwards: a refusal leaves it as it came
+abbrev pub written : {A : Type 0} → Check → A → A → A
 written accepted before after = after
 written (refused number place) before after = before

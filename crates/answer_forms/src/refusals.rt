@@ -59,3 +59,9 @@ pub const NOTE_LENGTH: u32 = 19;
 
 // The output is shorter than the job.
 pub const JOB_SPACE: u32 = 20;
+
+// The event's vertex is 0, or above the number of arcs.
+pub const EVENT_VERTEX: u32 = 21;
+
+// Arrive at a vertex whose mark is 1, or leave at one whose mark is 0.
+pub const EVENT_MARK: u32 = 22;

@@ -11,7 +11,7 @@ use lib.Dec.{eqb, ltb, leb}
 use Rattle.basics.specs.Sum.{some}
 use Rattle.game.specs.Tree.{Tree, ofArc, hasChild, marked}
 use Rattle.basics.proofs.Bools.{clash, neither-first, neither-second}
-use Rattle.basics.proofs.Sums.{In, in-cases}
+use Rattle.basics.proofs.Sums.{In, in-more, in-last, in-cases}
 use Rattle.answer_forms.specs.Answer.{Check, accepted, fault, _then_}
 use Rattle.answer_forms.proofs.Composed.{first-accepted, second-accepted, no-fault}
 use Rattle.limits.specs.Limits.{mostArcs, mostCost}
@@ -24,6 +24,12 @@ each-accepted check zero e k i = absurd (omega arith)
 each-accepted check (suc m) e k i =
     in-cases m k i (each-accepted check m (first-accepted (arcByArc check m) (check (suc m)) e) k)
     (λ d. ap check d ∙ second-accepted (arcByArc check m) (check (suc m)) e)
+
+-- and one that finds nothing at each arc finds nothing
+pub all-accepted : (check : ℕ → Check) (m : ℕ) → ((k : ℕ) → In m k → check k ≡ accepted) → arcByArc check m ≡ accepted
+unfolding arcByArc
+all-accepted check zero h = refl
+all-accepted check (suc m) h = rw (all-accepted check m (λ k i. h k (in-more i))) (h (suc m) (in-last m))
 
 -- the number of arcs
 pub count-accepted : (ps : List ℕ) → arcCountCheck ps ≡ accepted → (0 < length ps) × (length ps ≤ mostArcs)
@@ -112,9 +118,12 @@ module _ (t : Tree) (e : treeCheck t ≡ accepted) where
   unfolding treeCheck
   after-count = second-accepted (arcCountCheck ps) (lengths then after-lengths) e
 
-  counted : (0 < length ps) × (length ps ≤ mostArcs)
+  pub count-check : arcCountCheck ps ≡ accepted
   unfolding treeCheck
-  counted = count-accepted ps (first-accepted (arcCountCheck ps) (lengths then after-lengths) e)
+  count-check = first-accepted (arcCountCheck ps) (lengths then after-lengths) e
+
+  counted : (0 < length ps) × (length ps ≤ mostArcs)
+  counted = count-accepted ps count-check
 
   not-unlike : (unlike ps (t .costs) || unlike ps ms) ≡ false
   not-unlike =
@@ -129,13 +138,13 @@ module _ (t : Tree) (e : treeCheck t ≡ accepted) where
   arcs-then : after-lengths ≡ accepted
   arcs-then = second-accepted lengths after-lengths after-count
 
-  each : (k : ℕ) → In (length ps) k → at-arc k ≡ accepted
-  each = each-accepted at-arc (length ps) (first-accepted (arcByArc at-arc (length ps)) nobody arcs-then)
+  pub each-arc : (k : ℕ) → In (length ps) k → (arcCheck ps (t .costs) k then markCheck ps ms k) ≡ accepted
+  each-arc = each-accepted at-arc (length ps) (first-accepted (arcByArc at-arc (length ps)) nobody arcs-then)
 
   arcs : Arcs ps (t .costs)
   arcs =
       arcs-accepted ps (t .costs) same-costs
-      (λ k i. first-accepted (arcCheck ps (t .costs) k) (markCheck ps ms k) (each k i))
+      (λ k i. first-accepted (arcCheck ps (t .costs) k) (markCheck ps ms k) (each-arc k i))
 
   -- 17 at a marked vertex
   marked-ends : (v : ℕ) → marked ms v ≡ true → hasChild ps v ≡ false
@@ -144,7 +153,7 @@ module _ (t : Tree) (e : treeCheck t ≡ accepted) where
       elim (decLt i (length ps)) [
         | yes h ↦
             let here = second-accepted (arcCheck ps (t .costs) (suc i)) (markCheck ps ms (suc i))
-            (each (suc i) (omega arith)) in
+            (each-arc (suc i) (omega arith)) in
             let none = no-fault (marked ms (suc i) && hasChild ps (suc i)) 17 (suc i)
             (second-accepted (fault (ltb 1 (ofArc ms (suc i))) 16 (suc i))
             (fault (marked ms (suc i) && hasChild ps (suc i)) 17 (suc i)) here) in

@@ -13,3 +13,5 @@ pub mod InRange
 mod InTurn
 pub mod ByArcLaws
 pub mod Unused
+pub mod Reached
+pub mod EventLaws

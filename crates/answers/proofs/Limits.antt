@@ -7,9 +7,11 @@ use borrow.Author.Tests.{ltb-false}
 use lib.ListN.{length, getD, List·getD-eq-default}
 use lib.IntN.{pos, natAbs}
 use Rattle.game.specs.Network.{wholeCost, memberCount}
-use Rattle.game.specs.Tree.{Tree, network, ofArc, countedCosts}
+use Rattle.game.specs.Tree.{Tree, network, ofArc, marked, countedCosts}
+use Rattle.basics.specs.Sum.{pick}
+use Rattle.basics.proofs.Bools.{pick-yes}
 use Rattle.game.proofs.Counted.{counted-le}
-use Rattle.basics.proofs.Sums.{sum-bound, count-le}
+use Rattle.basics.proofs.Sums.{sum-bound, count-le, some-is, term-le}
 use Rattle.limits.specs.Limits.{mostCost, mostArcs, mostShare}
 use Rattle.limits.specs.Inner.{mostWhole}
 use Rattle.answers.specs.Checks.{outsideShare}
@@ -32,6 +34,15 @@ module _ (t : Tree) (ok : Accepted t) where
   pub members-bound : memberCount (network t) ≤ mostArcs
   members-bound = omega (arith, count-le (network t .arcs) (network t .member), ok .few)
 
+  anyone : 0 < memberCount (network t)
+  anyone =
+      let s = some-is (length (t .parents)) (marked (t .marks)) (ok .someone) in
+      omega (
+        arith,
+        term-le (length (t .parents)) (s .which) (λ k. pick (marked (t .marks) k) 1) (s .within),
+        pick-yes {b = marked (t .marks) (s .which)} 1 (s .passes),
+      )
+
   parent-bound : (k : ℕ) → ofArc (t .parents) k < mostArcs
   parent-bound zero = omega arith
   parent-bound (suc v) =
@@ -45,8 +56,10 @@ tree-limits t e =
     let ok = tree-accepted t e in
     record {
       arcs = ok .few;
+      someone = anyone t ok;
       members = members-bound t ok;
       costs = sym (ok .same);
+      marks = ok .one-a-vertex;
       parent = parent-bound t ok;
       cost = ok .limited;
     }

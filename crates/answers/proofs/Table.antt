@@ -18,6 +18,8 @@ use Rattle.answers.specs.Level.{shortArc, levelAnswer, levelList}
 use Rattle.answers.specs.CapSums.{runningTo, capSumsAnswer, capSumsList}
 use Rattle.game.specs.ByArc.{tallied, giveArc, handled}
 use Rattle.answers.specs.ByArc.{byArcAnswer, byArcList}
+use Rattle.answers.specs.States.{padded, madeState, treeIn, stateCheck}
+use Rattle.answers.specs.Events.{outcomeCheck, eventCheck, applyAnswer, appliedState}
 use Rattle.answers.specs.Table.{Table}
 
 pub table : Table
@@ -25,7 +27,8 @@ unfolding climb used groupCost sumBelow wholeCost membersTo hasChild deadEnds co
     groups best named arcByArc treeCheck plainCheck deadEndsAnswer deadEndsList bitsCheck rangeCheck
     memberCountAnswer membersAnswer membersList needsAnswer needsList groupCostAnswer totalAnswer searchAnswer
     searchWords firstLeast units arcsDown shortArc levelAnswer levelList tallied giveArc handled byArcAnswer
-    byArcList runningTo capSumsAnswer capSumsList
+    byArcList runningTo capSumsAnswer capSumsList padded madeState treeIn stateCheck outcomeCheck eventCheck applyAnswer
+    appliedState
 table =
     record {
       T-members = refl;
@@ -100,4 +103,20 @@ table =
       T-cap-sums-short-list = refl;
       spare-cap-sums = refl;
       spare-cap-sums-list = refl;
+      T-made = refl;
+      T-leave-3 = refl;
+      T-leave-3-state = refl;
+      T-arrive-3 = refl;
+      T-arrive-3-state = refl;
+      T-untidy-leave-3 = refl;
+      T-arrive-1 = refl;
+      T-arrive-1-state = refl;
+      T-arrive-2 = refl;
+      T-arrive-0 = refl;
+      T-leave-5 = refl;
+      T-dearest = refl;
+      T-too-dear = refl;
+      T-last-leaves = refl;
+      refused-made = refl;
+      no-state = refl;
     }

@@ -36,6 +36,7 @@ use Rattle.answers.specs.Level.{LevelAnswer, capsCheck, shortArc, splitO
 use Rattle.answers.specs.Level.{levelList}
 use Rattle.answers.specs.CapSums.{runningSum, allCaps, capSumsAnswer, capSumsList}
 use Rattle.answers.specs.ByArc.{byArcAnswer, byArcList}
+use Rattle.answers.specs.States.{padded, madeState}
 use Rattle.answers.specs.Unused.{UnusedStatement, DifferUnused, StubStatement}
 use Rattle.answers.proofs.Accepted.{tree-accepted}
 
@@ -117,7 +118,7 @@ module _ (s t : Tree) (differ : DifferUnused s t) where
 
 pub stubs-free : StubStatement
 unfolding memberCountAnswer membersAnswer membersList needsAnswer needsList groupCostAnswer totalAnswer searchAnswer
-    searchWords levelAnswer levelList capSumsAnswer capSumsList byArcAnswer byArcList
+    searchWords levelAnswer levelList capSumsAnswer capSumsList byArcAnswer byArcList madeState
 stubs-free s t s-ok t-ok differ =
     record {
       check = check;
@@ -144,6 +145,7 @@ stubs-free s t s-ok t-ok differ =
           by-both (λ c n. written (summed caps out c n) out (list (n .arcs) (runningSum n caps)));
       by-arc = λ out. by-both (λ c n. answer (c then outputCheck (memberCount n) out) (memberCount n));
       by-arc-list = λ out. by-both (λ c n. written (c then outputCheck (memberCount n) out) out (byArc n));
+      shares = rw (s-ok, t-ok) (ap (λ (n : Network). padded (byArc n)) (same-network s t differ));
     }
   where
     check : treeCheck s ≡ treeCheck t

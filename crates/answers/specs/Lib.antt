@@ -6,6 +6,8 @@ pub mod Audit
 pub mod Level
 pub mod CapSums
 pub mod ByArc
+pub mod States
+pub mod Events
 pub mod DeadEnds
 pub mod Limits
 pub mod Laws
@@ -14,5 +16,6 @@ pub mod CoreLaws
 pub mod LevelLaws
 pub mod CapSumsLaws
 pub mod ByArcLaws
+pub mod EventLaws
 pub mod Unused
 pub mod Table

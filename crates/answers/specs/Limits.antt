@@ -12,11 +12,13 @@ use Rattle.answers.specs.Checks.{treeCheck, proposalCheck}
 use Rattle.answers.specs.Level.{capsCheck}
 
 pub record Limits (t : Tree) : Type 0 where
-  -- there are at most 1,023 arcs, and at most as many members
+  -- there are at most 1,023 arcs, and at most as many members, and at least one
   pub arcs : length (t .parents) ≤ mostArcs
+  pub someone : 0 < memberCount (network t)
   pub members : memberCount (network t) ≤ mostArcs
-  -- there is one cost an arc, and no parent and no cost is above its limit
+  -- there is one cost and one mark an arc, and no parent and no cost is above its limit
   pub costs : length (t .costs) ≡ length (t .parents)
+  pub marks : length (t .marks) ≡ length (t .parents)
   pub parent : (k : ℕ) → ofArc (t .parents) k < mostArcs
   pub cost : (k : ℕ) → ofArc (t .costs) k ≤ mostCost
 

@@ -1,5 +1,5 @@
 -- The specification's networks to try (§10), as one statement about the answers and lists of the entries.
-use Prim.Native.Nat.{ℕ}
+use Prim.Native.Nat.{ℕ, _-_}
 use mathlib.Core.Path.{_≡_}
 use mathlib.Core.List.{List, [], _∷_}
 use lib.ListN.{replicate}
@@ -14,6 +14,8 @@ use Rattle.answers.specs.Audit.{found, none, totalAnswer, searchAnswer, 
 use Rattle.answers.specs.Level.{split, refusal, levelAnswer, levelList}
 use Rattle.answers.specs.CapSums.{capSumsAnswer, capSumsList}
 use Rattle.answers.specs.ByArc.{byArcAnswer, byArcList}
+use Rattle.answers.specs.States.{State, noState, madeState}
+use Rattle.answers.specs.Events.{arrive, leave, newCost, eventAt, applyAnswer, appliedState}
 
 -- the tree T of the specification, §10
 abbrev pub T : Tree
@@ -46,6 +48,32 @@ group w = w ∷ replicate 15 0
 -- a lent list of n entries, all of them 77, which no row answers
 abbrev pub lent : ℕ → List ℕ
 lent n = replicate n 77
+
+-- a list of 1,023 entries that ends in zeros
+abbrev pub zeroFrom : ℕ → List ℕ
+zeroFrom i = replicate (1023 - i) 0
+
+-- the state that holds T with these marks and shares
+abbrev pub T-state : List ℕ → List ℕ → State
+T-state marks shares =
+    record {
+      arcs = 4;
+      parents = 0 ∷ 1 ∷ 1 ∷ 0 ∷ zeroFrom 4;
+      costs = 6 ∷ 1 ∷ 5 ∷ 4 ∷ zeroFrom 4;
+      marks = marks;
+      shares = shares;
+    }
+
+-- T's state, and that of T with a spare plot
+abbrev pub T-full : State
+T-full = T-state (0 ∷ 1 ∷ 1 ∷ 1 ∷ zeroFrom 4) (4 ∷ 8 ∷ 4 ∷ zeroFrom 3)
+
+abbrev pub T-left : State
+T-left = T-state (0 ∷ 1 ∷ 0 ∷ 1 ∷ zeroFrom 4) (7 ∷ 4 ∷ zeroFrom 2)
+
+-- T's state with other shares, and past arc 4 a mark that is none
+abbrev pub T-untidy : State
+T-untidy = T-state (0 ∷ 1 ∷ 1 ∷ 1 ∷ 9 ∷ zeroFrom 5) (lent 1023)
 
 pub record Table : Type 0 where
   pub T-members : memberCountAnswer T ≡ value 3
@@ -124,3 +152,20 @@ pub record Table : Type 0 where
   pub T-cap-sums-short-list : capSumsList T (3 ∷ 9 ∷ 4 ∷ []) (lent 3) ≡ lent 3
   pub spare-cap-sums : capSumsAnswer T-spare (3 ∷ 4 ∷ []) (lent 4) ≡ value 7
   pub spare-cap-sums-list : capSumsList T-spare (3 ∷ 4 ∷ []) (lent 4) ≡ 3 ∷ 3 ∷ 0 ∷ 4 ∷ []
+  -- states and events
+  pub T-made : madeState T ≡ T-full
+  pub T-leave-3 : applyAnswer T-full (eventAt 3 leave) ≡ value 2
+  pub T-leave-3-state : appliedState T-full (eventAt 3 leave) ≡ T-left
+  pub T-arrive-3 : applyAnswer T-left (eventAt 3 arrive) ≡ value 3
+  pub T-arrive-3-state : appliedState T-left (eventAt 3 arrive) ≡ T-full
+  pub T-untidy-leave-3 : appliedState T-untidy (eventAt 3 leave) ≡ T-left
+  pub T-arrive-1 : applyAnswer T-untidy (eventAt 1 arrive) ≡ no 17 1
+  pub T-arrive-1-state : appliedState T-untidy (eventAt 1 arrive) ≡ T-untidy
+  pub T-arrive-2 : applyAnswer T-full (eventAt 2 arrive) ≡ no 22 2
+  pub T-arrive-0 : applyAnswer T-full (eventAt 0 arrive) ≡ no 21 0
+  pub T-leave-5 : applyAnswer T-full (eventAt 5 leave) ≡ no 21 5
+  pub T-dearest : applyAnswer T-full (eventAt 3 (newCost 1000000000)) ≡ value 3
+  pub T-too-dear : applyAnswer T-full (eventAt 3 (newCost 1000000001)) ≡ no 4 3
+  pub T-last-leaves : applyAnswer (T-state (0 ∷ 1 ∷ 0 ∷ 0 ∷ zeroFrom 4) (zeroFrom 0)) (eventAt 2 leave) ≡ no 18 0
+  pub refused-made : madeState (T-marked 0 0 0 0) ≡ noState
+  pub no-state : applyAnswer noState (eventAt 1 arrive) ≡ no 1 0

@@ -4,6 +4,7 @@
 --   sum-add, sum-times, sum-pick      of a sum, with a factor, under one test
 --   sum-swap                          two sums exchanged
 --   sum-at, term-le                   the one term that a test leaves; a term is at most the sum
+--   sum-but-one                       two sums whose terms are the same but one
 --   sum-parts, sum-longer, sum-bound  by a test and its negation; a longer range; a bound
 --   some-of, some-is                  `some` from a witness, and a witness `Some` from it
 --   sum-pos, sum-more-some            a term that makes a sum positive, or greater than another
@@ -14,7 +15,7 @@ use mathlib.Core.Path.{_≡_, refl, sym, ap, ap₂, _∙_}
 use mathlib.Core.Bool.{Bool, true, false, not, _||_, false≢true}
 use mathlib.Core.Logic.{⊎-elim}
 use native.Mathlib.Nat.{le-refl, mul-zero, mul-one, suc-mul}
-use native.Mathlib.Decide.{decLe, decLt}
+use native.Mathlib.Decide.{decLe, decLt, ℕ-discrete}
 use native.Mathlib.Omega.{arith}
 use borrow.Author.Tests.{eq-eqb, ne-eqb, lt-ltb}
 use lib.Dec.{eqb, ltb, eqb·suc-suc}
@@ -95,6 +96,23 @@ sum-at (suc m) k f i =
       pick-yes (f (suc m)) (eq-eqb k (suc m) e),
       sum-zero m {f = λ v. pick (eqb k v) (f v)} (λ v j. pick-no (f v) (ne-eqb k v (λ d. omega arith))),
     ))
+
+-- two sums whose terms are the same but one
+pub sum-but-one : (m v : ℕ) (f g : ℕ → ℕ) → In m v → ((k : ℕ) → In m k → (k ≡ v → ⊥) → f k ≡ g k)
+    → sum m g + f v ≡ sum m f + g v
+sum-but-one m v f g i same =
+    ap (λ (x : ℕ). sum m g + x) (sym (sum-at m v f i))
+    ∙ sym (sum-add m g (λ k. pick (eqb v k) (f k)))
+    ∙ sum-cong m crossed
+    ∙ sum-add m f (λ k. pick (eqb v k) (g k))
+    ∙ ap (λ (x : ℕ). sum m f + x) (sum-at m v g i)
+  where
+    crossed : (k : ℕ) → In m k → g k + pick (eqb v k) (f k) ≡ f k + pick (eqb v k) (g k)
+    crossed k j =
+        elim (ℕ-discrete k v) [
+          | yes e ↦ rw (eq-eqb v k (sym e)) (omega arith)
+          | no n ↦ rw (ne-eqb v k (λ (e : v ≡ k). n (sym e))) (omega (arith, same k j n))
+        ]
 
 pub term-le : (m k : ℕ) (f : ℕ → ℕ) → In m k → f k ≤ sum m f
 term-le zero k f i = absurd (omega arith)

@@ -13,6 +13,8 @@ use Rattle.limits.specs.Limits.{mostArcs, mostCost}
 use Rattle.answers.specs.Checks.{unlike, arcCheck, markCheck, arcByArc, treeCheck, plainCheck, bitsCheck, rangeCheck}
 use Rattle.answers.specs.Checks.{memberListCheck, outputCheck, outsideShare}
 use Rattle.answers.specs.Level.{outsideCap}
+use Rattle.answers.specs.States.{State, treeIn, stateCheck}
+use Rattle.answers.specs.Events.{Event, reached, markedSo, fitCheck, outcomeCheck, eventCheck, applyCheck}
 use Rattle.answers.proofs.DeadEnds.{plain-check}
 use Rattle.job_bytes.specs.JobBytes.{Contents, jobBytes}
 use Rattle.job_bytes.specs.Format.{arcOffset, memberOffset, version, closing0, closing1, jobArcs, jobMembers, jobCaps}
@@ -67,6 +69,26 @@ tree-kept t =
 -- the lists without marks are checked as the tree whose dead ends are marked
 pub plain-kept : (parents costs : List ℕ) → Kept (plainCheck parents costs)
 plain-kept parents costs = subst Kept (plain-check parents costs) (tree-kept (deadEndTree parents costs))
+
+-- an event on a tree, and on a state
+event-kept : (t : Tree) (e : Event) → Kept (eventCheck t e)
+unfolding eventCheck outcomeCheck
+event-kept t e =
+    let v = e .vertex in
+    let after = reached t e in
+    then-kept (fitCheck t e) (outcomeCheck after v)
+    (fault-then-kept (eqb v 0 || ltb (length (t .parents)) v) 20 v _
+    (fault-kept (markedSo (ofArc (t .marks) v) (e .change)) 21 v))
+    (fault-then-kept (marked (after .marks) v && hasChild (after .parents) v) 16 v _
+    (fault-then-kept (not (some (length (after .parents)) (marked (after .marks)))) 17 0 _
+    (fault-kept (ltb mostCost (ofArc (after .costs) v)) 3 v)))
+
+pub apply-kept : (s : State) (e : Event) → Kept (applyCheck s e)
+unfolding stateCheck
+apply-kept s e =
+    then-kept (stateCheck s) (eventCheck (treeIn s) e)
+    (fault-then-kept (ltb mostArcs (s .arcs)) 0 0 (treeCheck (treeIn s)) (tree-kept (treeIn s)))
+    (event-kept (treeIn s) e)
 
 pub bits-kept : (words : List ℕ) (f j : ℕ) → Kept (bitsCheck words f j)
 unfolding bitsCheck

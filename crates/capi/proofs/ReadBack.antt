@@ -19,6 +19,11 @@ use Rattle.answers.specs.Audit.{Verdict, found, none, auditCheck, totalAnswer, 
 use Rattle.answers.specs.Level.{LevelAnswer, outsideCap, capsCheck, shortArc, levelOr, splitOr9, levelAnswer}
 use Rattle.answers.specs.CapSums.{capSumsAnswer}
 use Rattle.answers.specs.ByArc.{byArcAnswer}
+use Rattle.answers.specs.States.{State as HeldState}
+use Rattle.answers.specs.Events.{Event, applyCheck, applyAnswer}
+use Rattle.events.specs.Outcomes.{stateOf}
+use Rattle.events.specs.declared.make.State.{State}
+use Rattle.capi.specs.declared.states.ZilqodurStateAnswer.{ZilqodurStateAnswer}
 use Rattle.job_bytes.specs.JobBytes.{Contents, jobBytes}
 use Rattle.job.specs.Reader.{Lent, readCheck, jobAnswer}
 use Rattle.job.specs.Writer.{contentsCheck, lengthAnswer, writeCheck, writeAnswer}
@@ -27,8 +32,9 @@ use Rattle.capi.specs.Structs.{encodeTotal, decodeTotal, encodeSearch, d
 use Rattle.capi.specs.Structs.{encodeLevel, decodeLevel}
 use Rattle.capi.specs.Structs.{encodeCapSums, decodeCapSums, encodeJob, decodeJob}
 use Rattle.capi.specs.Structs.{encodeJobLength, decodeJobLength}
+use Rattle.capi.specs.Structs.{encodeState, decodeState}
 use Rattle.capi.proofs.Kept.{Kept, then-kept, tree-kept, plain-kept, bits-kept, list-kept, output-kept}
-use Rattle.capi.proofs.Kept.{read-kept, contents-kept, write-kept}
+use Rattle.capi.proofs.Kept.{apply-kept, read-kept, contents-kept, write-kept}
 
 -- s is the struct of an answer that can be read back: what it stands for, and that its other fields are 0
 pub stands-for : {A S : Type 0} (encode : A → S) (decode : S → A) {a found : A} {s : S} → s ≡ encode found → found ≡ a
@@ -187,6 +193,48 @@ unfolding levelAnswer
 level-back t caps out =
     level-or-back _ _ (caps-kept t caps out (memberCount (network t)))
     (split-back (network t) caps (shortArc (network t) caps (network t .arcs)))
+
+-- the answer beside a state
+module _ (s : State) where
+  pub state-fields : (a : Answer ℕ)
+      → _≡_ {A = ZilqodurStateAnswer}
+      (record {
+        refusal = encodeMembers a .refusal;
+        place = encodeMembers a .place;
+        members = encodeMembers a .members;
+        state = s;
+      })
+      (encodeState a s)
+  state-fields (value n) = refl
+  state-fields (refusal number place) = refl
+
+  state-beside : (a : Answer ℕ) → encodeState a s .state ≡ s
+  state-beside (value n) = refl
+  state-beside (refusal number place) = refl
+
+  pub stands-beside : {a told : Answer ℕ} {r : ZilqodurStateAnswer} {h : HeldState}
+      → r ≡ encodeState told s
+      → told ≡ a
+      → decodeState (encodeState a s) ≡ a
+      → stateOf s ≡ h
+      → (decodeState r ≡ a) × ((r ≡ encodeState (decodeState r) (r .state)) × (stateOf (r .state) ≡ h))
+  stands-beside {told = told} {r = r} is finds back holds =
+      let stands = stands-for (λ a. encodeState a s) decodeState is finds back in
+      let beside = ap (λ (x : ZilqodurStateAnswer). x .state) is ∙ state-beside told in (
+        stands .0,
+        (stands .1 ∙ ap (encodeState (decodeState r)) (sym beside), ap stateOf beside ∙ holds),
+      )
+
+  state-back : (c : Check) (n : ℕ) → Kept c → decodeState (encodeState (answer c n) s) ≡ answer c n
+  state-back = answer-back (λ a. encodeState a s) decodeState (λ x. refl) (λ n place. refl)
+
+  pub made-back : (t : Tree) → decodeState (encodeState (memberCountAnswer t) s) ≡ memberCountAnswer t
+  unfolding memberCountAnswer
+  made-back t = state-back (treeCheck t) (memberCount (network t)) (tree-kept t)
+
+  pub applied-back : (h : HeldState) (e : Event) → decodeState (encodeState (applyAnswer h e) s) ≡ applyAnswer h e
+  unfolding applyAnswer
+  applied-back h e = state-back (applyCheck h e) _ (apply-kept h e)
 
 pub job-back : (bytes : List ℕ) (l : Lent) → decodeJob (encodeJob (jobAnswer bytes l)) ≡ jobAnswer bytes l
 unfolding jobAnswer

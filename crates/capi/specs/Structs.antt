@@ -11,7 +11,9 @@ use Rattle.answers.specs.Needs.{NeedsValue}
 use Rattle.answers.specs.GroupCost.{GroupCostValue}
 use Rattle.answers.specs.Audit.{Verdict, found, none}
 use Rattle.answers.specs.Level.{LevelAnswer, split, refusal as notSplit}
+use Rattle.answers.specs.Events.{Change, arrive, leave, newCost, Event, eventAt}
 use Rattle.numbers.specs.Signed.{isZero}
+use Rattle.events.specs.declared.make.State.{State}
 use Rattle.job.specs.Reader.{JobValue}
 use Rattle.capi.specs.declared.check.ZilqodurCheck.{ZilqodurCheck}
 use Rattle.capi.specs.declared.members.ZilqodurMembers.{ZilqodurMembers}
@@ -21,6 +23,8 @@ use Rattle.capi.specs.declared.group_search.ZilqodurSearch.{ZilqodurSear
 use Rattle.capi.specs.declared.total.ZilqodurTotal.{ZilqodurTotal}
 use Rattle.capi.specs.declared.cap_sums.ZilqodurCapSums.{ZilqodurCapSums}
 use Rattle.capi.specs.declared.level_split.ZilqodurLevel.{ZilqodurLevel}
+use Rattle.capi.specs.declared.states.ZilqodurEvent.{ZilqodurEvent}
+use Rattle.capi.specs.declared.states.ZilqodurStateAnswer.{ZilqodurStateAnswer}
 use Rattle.capi.specs.declared.job_read.ZilqodurJob.{ZilqodurJob}
 use Rattle.capi.specs.declared.job_write.ZilqodurJobLength.{ZilqodurJobLength}
 use Rattle.capi.specs.declared.report.ZilqodurReport.{ZilqodurReport}
@@ -120,6 +124,23 @@ splitOr (suc n) place shortfall members = notSplit (suc n) place shortfall
 
 abbrev pub decodeLevel : ZilqodurLevel → LevelAnswer
 decodeLevel s = splitOr (s .refusal) (s .place) (s .shortfall) (s .members)
+
+-- the state is the one beside the answer, in a refusal too
+abbrev pub encodeState : Answer ℕ → State → ZilqodurStateAnswer
+encodeState (value n) s = record { refusal = 0; place = 0; members = n; state = s }
+encodeState (refusal number place) s = record { refusal = number; place = place; members = 0; state = s }
+
+abbrev pub decodeState : ZilqodurStateAnswer → Answer ℕ
+decodeState s = valueOr (s .refusal) (s .place) (s .members)
+
+-- the change that a kind and an amount stand for
+abbrev pub changeBy : (kind amount : ℕ) → Change
+changeBy zero amount = arrive
+changeBy (suc zero) amount = leave
+changeBy (suc (suc n)) amount = newCost amount
+
+abbrev pub eventBy : ZilqodurEvent → Event
+eventBy e = eventAt (e .vertex) (changeBy (e .kind) (e .amount))
 
 abbrev pub encodeJob : Answer JobValue → ZilqodurJob
 encodeJob (value v) = record { refusal = 0; place = 0; arcs = v .arcs; members = v .members; note = v .note }

@@ -12,6 +12,7 @@ mod marks;
 mod members;
 mod needs;
 mod report;
+mod states;
 mod total;
 
 pub use by_arc_split::zilqodur_split_by_arc;
@@ -40,5 +41,9 @@ pub use needs::ZilqodurNeeds;
 pub use needs::zilqodur_list_needs;
 pub use report::ZilqodurReport;
 pub use report::zilqodur_report;
+pub use states::ZilqodurEvent;
+pub use states::ZilqodurStateAnswer;
+pub use states::zilqodur_apply_event;
+pub use states::zilqodur_make_state;
 pub use total::ZilqodurTotal;
 pub use total::zilqodur_check_total;

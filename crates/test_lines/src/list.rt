@@ -3,7 +3,7 @@ use crate::number;
 use crate::width;
 ghost use Prim.Native.Nat.{_≤_};
 ghost use lib.ListN.{length};
-ghost use Rattle.test_lines.specs.Lists.{Front, MOST};
+ghost use Rattle.test_lines.specs.Lists.{FirstAt, Front, MOST};
 
 // The most entries of a list.
 pub const MOST: usize = 1100;
@@ -20,13 +20,17 @@ const UNREADABLE: Entries = Entries {
 };
 
 // Where a list's first entry starts: past the end where it has none.
-fn first_entry(s: &[u8]) -> usize {
+pub fn first_entry(s: &[u8]) -> usize
+    ensures { λ r. ⌜ FirstAt (now (s .entry)) r ⌝ }
+{
     if check::same(s, b"-") { 2 } else { 0 }
 }
 
-// A list of numbers, or of signed ones' bits, up to most, into the front of out.
-fn read_entries(s: &[u8], signed: bool, most: u64, out: &mut [u64]) -> Entries
+// A list of at most room numbers, or signed ones' bits, up to most, into the front of out.
+fn read_entries(s: &[u8], signed: bool, most: u64, room: usize, out: &mut [u64]) -> Entries
+    requires { ⌜ room ≤ length (now out) ⌝ }
     ensures { λ r. ⌜ Front (r .count) most (now (out .exit)) ⌝ }
+    ensures { λ r. ⌜ r .count ≤ room ⌝ }
 {
     let mut n = 0;
     let mut at = first_entry(s);
@@ -36,7 +40,7 @@ fn read_entries(s: &[u8], signed: bool, most: u64, out: &mut [u64]) -> Entries
         if !entry.readable {
             return UNREADABLE;
         }
-        if out.len() <= n {
+        if room <= n {
             return UNREADABLE;
         }
         out[n] = entry.value;
@@ -53,38 +57,39 @@ fn read_entries(s: &[u8], signed: bool, most: u64, out: &mut [u64]) -> Entries
 pub fn read(s: &[u8], most: u64, out: &mut [u64]) -> Entries
     ensures { λ r. ⌜ Front (r .count) most (now (out .exit)) ⌝ }
 {
-    read_entries(s, false, most, out)
+    let room = out.len();
+    read_entries(s, false, most, room, out)
 }
 
 // A list of 16-bit numbers, into the front of out.
 pub fn read16(s: &[u8], out: &mut [u16]) -> Entries
-    requires { ⌜ MOST ≤ length (now out) ⌝ }
-    ensures { λ r. ⌜ r .count ≤ MOST ⌝ }
+    requires { ⌜ length (now out) ≤ MOST ⌝ }
+    ensures { λ r. ⌜ r .count ≤ length (now (out .entry)) ⌝ }
 {
     let mut wide = [0u64; MOST];
-    let found = read(s, u16::MAX as u64, &mut wide);
+    let found = read_entries(s, false, u16::MAX as u64, out.len(), &mut wide);
     width::narrow16(&wide, found.count, out);
     found
 }
 
 // A list of 32-bit numbers, into the front of out.
 pub fn read32(s: &[u8], out: &mut [u32]) -> Entries
-    requires { ⌜ MOST ≤ length (now out) ⌝ }
-    ensures { λ r. ⌜ r .count ≤ MOST ⌝ }
+    requires { ⌜ length (now out) ≤ MOST ⌝ }
+    ensures { λ r. ⌜ r .count ≤ length (now (out .entry)) ⌝ }
 {
     let mut wide = [0u64; MOST];
-    let found = read(s, u32::MAX as u64, &mut wide);
+    let found = read_entries(s, false, u32::MAX as u64, out.len(), &mut wide);
     width::narrow32(&wide, found.count, out);
     found
 }
 
 // A list of signed 64-bit numbers, into the front of out.
 pub fn read_signed(s: &[u8], out: &mut [i64]) -> Entries
-    requires { ⌜ MOST ≤ length (now out) ⌝ }
-    ensures { λ r. ⌜ r .count ≤ MOST ⌝ }
+    requires { ⌜ length (now out) ≤ MOST ⌝ }
+    ensures { λ r. ⌜ r .count ≤ length (now (out .entry)) ⌝ }
 {
     let mut bits = [0u64; MOST];
-    let found = read_entries(s, true, u64::MAX, &mut bits);
+    let found = read_entries(s, true, u64::MAX, out.len(), &mut bits);
     width::to_signed(&bits, found.count, out);
     found
 }

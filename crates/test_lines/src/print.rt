@@ -1,5 +1,6 @@
 // Printing text, numbers, lists and bytes to standard output.
 use crate::list::MOST;
+use crate::rest;
 use crate::width;
 use libc::STDOUT_FILENO;
 ghost use Prim.Native.Nat.{_≤_};
@@ -74,6 +75,30 @@ pub fn list32(entries: &[u32])
     let n = entries.len();
     width::widen32(entries, &mut wide);
     list(&wide[0..n]);
+}
+
+// As list, without the zeros at the end.
+pub fn trimmed(entries: &[u64]) {
+    let n = rest::zeros_from(entries);
+    list(&entries[0..n]);
+}
+
+// As trimmed.
+pub fn trimmed16(entries: &[u16])
+    requires { ⌜ length (now entries) ≤ MOST ⌝ }
+{
+    let mut wide = [0u64; MOST];
+    width::widen16(entries, &mut wide);
+    trimmed(&wide);
+}
+
+// As trimmed.
+pub fn trimmed32(entries: &[u32])
+    requires { ⌜ length (now entries) ≤ MOST ⌝ }
+{
+    let mut wide = [0u64; MOST];
+    width::widen32(entries, &mut wide);
+    trimmed(&wide);
 }
 
 // As item.

@@ -1,9 +1,9 @@
-// Whether a list's entries from a place on all hold one value.
+// Whether a list's entries from a place on all hold one value, and where the zeros at its end begin.
 use crate::list::MOST;
 use crate::width;
 ghost use Prim.Native.Nat.{_≤_};
 ghost use lib.ListN.{length};
-ghost use Rattle.test_lines.specs.Lists.{MOST, RestIs};
+ghost use Rattle.test_lines.specs.Lists.{MOST, RestIs, ZerosFrom};
 
 pub fn is(entries: &[u64], from: usize, value: u64) -> bool
     ensures { λ r. ⌜ RestIs (now (entries .entry)) from value r ⌝ }
@@ -66,4 +66,18 @@ pub fn is32(entries: &[u32], from: usize, value: u32) -> bool
     let n = entries.len();
     width::widen32(entries, &mut wide);
     is(&wide[0..n], from, value as u64)
+}
+
+// The end of the last entry that is not 0.
+pub fn zeros_from(entries: &[u64]) -> usize
+    ensures { λ r. ⌜ ZerosFrom (now (entries .entry)) r ⌝ }
+{
+    let mut n = entries.len();
+    while 0 < n {
+        if entries[n - 1] != 0 {
+            return n;
+        }
+        n -= 1;
+    }
+    0
 }

@@ -28,6 +28,7 @@ from rules import (
 from by_arc import by_arc_split
 from job import read_job
 from level import level_split
+from states import ARRIVE, LEAVE, NEW_COST, NO_STATE, Event, State, apply_event, make_state, state_tree
 from writer import job_bytes, job_length, write_job
 
 UNTOUCHED = 9
@@ -152,7 +153,17 @@ def shown(field):
         return field.hex() or "-"
     if isinstance(field, Tree):
         return " ".join(map(shown, field))
+    if isinstance(field, State):
+        return " ".join([str(field.arcs), *map(trimmed, field[1:])])
     return ",".join(map(str, field)) or "-"
+
+
+def trimmed(entries):
+    """A list as shown, without the zeros at its end."""
+    end = len(entries)
+    while end > 0 and entries[end - 1] == 0:
+        end -= 1
+    return shown(entries[:end])
 
 
 def answer_job(lengths, data):
@@ -199,14 +210,49 @@ def answer_write(*fields):
     return f"{asked}, {line}; others kept"
 
 
-WITH_JOBS = {"job": answer_job, "write": answer_write}
+def check_undone(before, event, after):
+    """The opposite of an arrival or a leaving leads back to the state made of the tree before."""
+    if event.change != NEW_COST:
+        back = Event(event.vertex, LEAVE if event.change == ARRIVE else ARRIVE)
+        assert apply_event(after, back) == make_state(state_tree(before)), (before, event)
+
+
+def answer_events(state, events):
+    """The answer of each event and the shares after it, then all of the state."""
+    lines = []
+    for event in events:
+        try:
+            after = apply_event(state, event)
+        except Refusal as refusal:
+            line = str(refusal)
+        else:
+            check_undone(state, event, after)
+            state, line = after, f"members {sum(after.marks)}"
+        lines.append(f"{line}: {trimmed(state.shares)}")
+    lines.append(": ".join([f"arcs {state.arcs}", *map(trimmed, state[1:])]))
+    return "; ".join(lines)
+
+
+def answer_state(tree, events):
+    """The answer of the making, then as of events on the state made, or on the one that is 0 throughout."""
+    try:
+        state = make_state(tree)
+    except Refusal as refusal:
+        state, line = NO_STATE, str(refusal)
+    else:
+        line = f"members {member_count(tree)}"
+    return f"{line}; {answer_events(state, events)}"
+
+
+# the commands that print more than an answer and a list
+WHOLE_LINES = {"job": answer_job, "write": answer_write, "state": answer_state, "events": answer_events}
 
 
 def answer(case):
     """The line that the program must print."""
     command, *fields = case
-    if command in WITH_JOBS:
-        return WITH_JOBS[command](*fields)
+    if command in WHOLE_LINES:
+        return WHOLE_LINES[command](*fields)
     beside = []
     if command in WRITING:
         beside = [[UNTOUCHED] * fields.pop()]

@@ -4,16 +4,22 @@ use mathlib.Core.Path.{_≡_}
 use mathlib.Core.List.{List, [], _∷_}
 use lib.ListN.{getD, length}
 use Rattle.test_lines.specs.Fields.{First, fieldsOf}
+use Rattle.text.specs.Ascii.{ascii}
 use Rattle.test_vectors.specs.declared.command.Command.{Command}
 use Rattle.test_vectors.specs.declared.command.Command.the-variants.{Check, Count, Members, Needs, Group, Total}
 use Rattle.test_vectors.specs.declared.command.Command.the-variants.{Search, Shares, Level, Caps, ByArc, DeadEnds}
-use Rattle.test_vectors.specs.declared.command.Command.the-variants.{CapSums, Job, Write, Unknown}
+use Rattle.test_vectors.specs.declared.command.Command.the-variants.{CapSums, Job, Write, State, Events, Unknown}
+
+-- their names, with a space between two
+abbrev pub names : List ℕ
+names =
+    ascii "check count members needs group total search shares level caps byarc deadends capsums job write state events"
 
 -- the commands, in the order of their names
 abbrev pub commands : List Command
 commands =
     Check ∷ Count ∷ Members ∷ Needs ∷ Group ∷ Total ∷ Search ∷ Shares ∷ Level ∷ Caps ∷ ByArc ∷ DeadEnds ∷ CapSums
-    ∷ Job ∷ Write ∷ []
+    ∷ Job ∷ Write ∷ State ∷ Events ∷ []
 
 -- how many fields a command's line has; none is right for an unknown command
 abbrev pub fieldCount : Command → ℕ
@@ -32,10 +38,12 @@ fieldCount DeadEnds = 4
 fieldCount CapSums = 6
 fieldCount Job = 3
 fieldCount Write = 7
+fieldCount State = 5
+fieldCount Events = 7
 fieldCount Unknown = 0
 
--- c is the command at the name's place among the names of a line, or unknown where the name is none of them
-pub record Named (line name : List ℕ) (c : Command) : Type 0 where
+-- c is the command at the name's place among the names, or unknown where the name is none of them
+pub record Named (name : List ℕ) (c : Command) : Type 0 where
   pub place : ℕ
-  pub first : First (fieldsOf line) (length commands) name place
+  pub first : First (fieldsOf names) (length commands) name place
   pub is : c ≡ getD commands place Unknown

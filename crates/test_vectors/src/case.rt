@@ -1,9 +1,12 @@
 // One case: a command, a tree, and for some commands one field or two more; or parents, costs and a length; or a number
-// of members and a list with an entry each; or a job; or the note and the lists of a job and a length.
+// of members and a list with an entry each; or a job; or the note and the lists of a job and a length; or a state and
+// events.
 use crate::command;
 use crate::command::Command;
+use crate::event_case;
 use crate::job_case;
 use crate::print;
+use crate::state_case;
 use crate::write_case;
 use test_lines::field;
 use test_lines::list;
@@ -185,6 +188,7 @@ fn on_tree(
         Command::Level => with_caps(c, parents, costs, marks, after_tree, last),
         Command::ByArc => by_arc(parents, costs, marks, after_tree),
         Command::CapSums => with_caps(c, parents, costs, marks, after_tree, last),
+        Command::State => state_case::run(parents, costs, marks, after_tree),
         _ => print::bad_case(),
     }
 }
@@ -277,6 +281,7 @@ fn answer(line: &[u8]) {
         Command::Caps => caps(line),
         Command::Job => job_case::run(line),
         Command::Write => write_case::run(line),
+        Command::Events => event_case::run(line),
         _ => with_tree(c, line),
     }
 }

@@ -1,7 +1,6 @@
 // The commands: their names, and how many fields their lines have.
 use test_lines::field;
 ghost use mathlib.Core.Path.{_≡_};
-ghost use Rattle.text.specs.Ascii.{ascii};
 ghost use Rattle.test_vectors.specs.Commands.{Named, fieldCount};
 
 pub enum Command {
@@ -20,17 +19,17 @@ pub enum Command {
     CapSums,
     Job,
     Write,
+    State,
+    Events,
     Unknown,
 }
 
 pub fn named(name: &[u8]) -> Command
-    ensures { λ r. ⌜ Named
-        (ascii "check count members needs group total search shares level caps byarc deadends capsums job write")
-        (now (name .entry)) r ⌝ }
+    ensures { λ r. ⌜ Named (now (name .entry)) r ⌝ }
 {
     match field::find(
-        b"check count members needs group total search shares level caps byarc deadends capsums job write",
-        15,
+        b"check count members needs group total search shares level caps byarc deadends capsums job write state events",
+        17,
         name,
     ) {
         0 => Command::Check,
@@ -48,6 +47,8 @@ pub fn named(name: &[u8]) -> Command
         12 => Command::CapSums,
         13 => Command::Job,
         14 => Command::Write,
+        15 => Command::State,
+        16 => Command::Events,
         _ => Command::Unknown,
     }
 }
@@ -72,6 +73,8 @@ pub fn fields(c: Command) -> usize
         Command::CapSums => 6,
         Command::Job => 3,
         Command::Write => 7,
+        Command::State => 5,
+        Command::Events => 7,
         Command::Unknown => 0,
     }
 }

@@ -1,8 +1,12 @@
 // Runs the engine's entries on the cases of standard input, one a line, and prints a line each.
 mod case;
 mod command;
+mod event_case;
+mod event_steps;
+mod event_text;
 mod job_case;
 mod print;
+mod state_case;
 mod write_case;
 
 use libc::STDIN_FILENO;

@@ -9,11 +9,15 @@ use engine::NeedsFound;
 use engine::Refusal;
 use engine::Searched;
 use engine::TotalFound;
+use events::State;
 use job::JobLength;
 use test_lines::print::labelled;
 use test_lines::print::labelled_signed;
 use test_lines::print::list;
 use test_lines::print::text;
+use test_lines::print::trimmed;
+use test_lines::print::trimmed16;
+use test_lines::print::trimmed32;
 ghost use Prim.Native.Nat.{_≤_};
 
 pub fn bad_case() {
@@ -112,6 +116,19 @@ pub fn job_length(label: &[u8], j: JobLength) {
         JobLength::Length(n) => labelled(label, n as u64),
         JobLength::Refused(r) => refusal(r),
     }
+}
+
+// All of a state: the zeros at the end of a list are left out, so that every other entry is printed.
+pub fn state(s: State) {
+    let parents = s.parents;
+    let costs = s.costs;
+    let marks = s.marks;
+    let shares = s.shares;
+    labelled(b"arcs ", s.arcs as u64);
+    trimmed16(&parents);
+    trimmed32(&costs);
+    trimmed16(&marks);
+    trimmed(&shares);
 }
 
 // How many entries of a list are printed, where the first n are to be.

@@ -16,7 +16,7 @@ fn check(answer: Answer<()>) -> ZilqodurCheck {
     }
 }
 
-fn members(answer: Answer<usize>) -> ZilqodurMembers {
+pub fn members(answer: Answer<usize>) -> ZilqodurMembers {
     match answer {
         Ok(members) => ZilqodurMembers {
             members,
@@ -107,7 +107,7 @@ impl Network {
         reference::tree_faults(&self.parents, &self.costs, &self.marks)
     }
 
-    fn lend(&self) -> (Lent<u16>, Lent<u32>, Lent<u16>) {
+    pub fn lend(&self) -> (Lent<u16>, Lent<u32>, Lent<u16>) {
         (
             Lent::new(&self.parents),
             Lent::new(&self.costs),
@@ -115,7 +115,7 @@ impl Network {
         )
     }
 
-    fn kept(&self, p: &Lent<u16>, c: &Lent<u32>, m: &Lent<u16>) -> bool {
+    pub fn kept(&self, p: &Lent<u16>, c: &Lent<u32>, m: &Lent<u16>) -> bool {
         p.holds(&self.parents) && c.holds(&self.costs) && m.holds(&self.marks)
     }
 

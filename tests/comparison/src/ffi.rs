@@ -1,5 +1,7 @@
 //! The archive's C interface, and the same calls on slices.
 
+use crate::reference::ARCS;
+
 #[repr(C)]
 #[derive(Clone, Copy, Debug, Default, PartialEq)]
 pub struct ZilqodurCheck {
@@ -71,6 +73,36 @@ pub struct ZilqodurLevel {
     pub place: usize,
     pub shortfall: u64,
     pub members: usize,
+}
+
+#[repr(C)]
+#[derive(Clone, Copy, Debug, PartialEq)]
+pub struct ZilqodurState {
+    pub arcs: usize,
+    pub parents: [u16; ARCS],
+    pub costs: [u32; ARCS],
+    pub marks: [u16; ARCS],
+    pub shares: [u64; ARCS],
+}
+
+const _: () = assert!(size_of::<ZilqodurState>() == 16_384);
+
+/// The kind is 0 for arrive and 1 for leave; every other number is a new cost.
+#[repr(C)]
+#[derive(Clone, Copy, Debug, PartialEq)]
+pub struct ZilqodurEvent {
+    pub vertex: usize,
+    pub kind: u32,
+    pub amount: u32,
+}
+
+#[repr(C)]
+#[derive(Clone, Copy, Debug, PartialEq)]
+pub struct ZilqodurStateAnswer {
+    pub refusal: u32,
+    pub place: usize,
+    pub members: usize,
+    pub state: ZilqodurState,
 }
 
 #[repr(C)]
@@ -215,6 +247,15 @@ unsafe extern "C" {
         out: *mut u64,
         out_count: usize,
     ) -> ZilqodurMembers;
+    fn zilqodur_make_state(
+        parents: *const u16,
+        parents_count: usize,
+        costs: *const u32,
+        costs_count: usize,
+        marks: *const u16,
+        marks_count: usize,
+    ) -> ZilqodurStateAnswer;
+    fn zilqodur_apply_event(state: ZilqodurState, event: ZilqodurEvent) -> ZilqodurStateAnswer;
     fn zilqodur_read_job(
         bytes: *const u8,
         bytes_count: usize,
@@ -467,6 +508,23 @@ pub fn split_by_arc(
             out.len(),
         )
     }
+}
+
+pub fn make_state(parents: &[u16], costs: &[u32], marks: &[u16]) -> ZilqodurStateAnswer {
+    unsafe {
+        zilqodur_make_state(
+            parents.as_ptr(),
+            parents.len(),
+            costs.as_ptr(),
+            costs.len(),
+            marks.as_ptr(),
+            marks.len(),
+        )
+    }
+}
+
+pub fn apply_event(state: &ZilqodurState, event: ZilqodurEvent) -> ZilqodurStateAnswer {
+    unsafe { zilqodur_apply_event(*state, event) }
 }
 
 pub fn read_job(

@@ -5,15 +5,18 @@
 mod brute;
 mod compare;
 mod compare_job;
+mod compare_state;
 mod ffi;
 mod generate;
 mod generate_job;
+mod generate_state;
 mod job;
 mod lent;
 mod rare;
 mod reference;
 mod report;
 mod rng;
+mod state;
 mod table;
 mod tally;
 
@@ -95,6 +98,8 @@ fn compare_round(tally: &mut Tally, rng: &mut Rng, arcs: usize) {
     };
     let tree = network.tree().expect("generated trees are accepted");
     rare::note_tree(tally, &tree);
+    let state_rng = &mut Rng::new(!tally.seed);
+    compare_state::round(tally, state_rng, &network);
     compare_tree(tally, rng, &network, &tree);
     compare_lists(tally, rng, &network, &tree, 3);
     let mut job = generate_job::valid(rng, &network.parents, &network.costs);
@@ -108,6 +113,7 @@ fn compare_round(tally: &mut Tally, rng: &mut Rng, arcs: usize) {
     rare::note_faults(tally, &network.faults());
     compare_tree(tally, rng, &network, &tree);
     compare_lists(tally, rng, &network, &tree, 1);
+    compare_state::round(tally, state_rng, &network);
     job.fillers.resize(network.parents.len(), 0);
     (job.parents, job.costs) = (network.parents, network.costs);
     compare_writer(tally, rng, &job, length);

@@ -1,17 +1,18 @@
 //! The cases that a run of all rounds is to meet: every refusal of every
 //! entry, faults that stand in one tree or one job, trees with spare plots,
-//! leftover units that tallies decide over, and totals of every kind with and
-//! without a group.
+//! leftover units that tallies decide over, totals of every kind with and
+//! without a group, and events of every kind.
 
+use crate::ffi::ZilqodurEvent;
 use crate::job::Fault;
-use crate::reference::{Refusal, Tree};
+use crate::reference::{Refusal, Tree, ARCS, COST};
 use crate::tally::Tally;
 
 const TREE: [u32; 7] = [1, 2, 3, 4, 16, 17, 18];
 
 /// The refusals of each entry, with whether it has those of a tree too.
 #[rustfmt::skip]
-const REFUSALS: [(&str, bool, &[u32]); 17] = [
+const REFUSALS: [(&str, bool, &[u32]); 19] = [
     ("check_tree", true, &[]),
     ("check_caps", false, &[6, 7]),
     ("check_proposal", false, &[6, 7]),
@@ -25,6 +26,8 @@ const REFUSALS: [(&str, bool, &[u32]); 17] = [
     ("list_cap_sums", true, &[6, 7, 8]),
     ("split_level", true, &[6, 7, 8, 9]),
     ("split_by_arc", true, &[8]),
+    ("make_state", true, &[]),
+    ("apply_event", false, &[1, 3, 4, 16, 17, 18, 21, 22]),
     ("read_job", false, &[10, 11, 12, 13, 14, 1, 3, 4, 15, 7]),
     ("job_length", false, &[1, 2, 3, 4, 6, 7, 19]),
     ("write_job", false, &[1, 2, 3, 4, 6, 7, 19, 20]),
@@ -50,6 +53,10 @@ const WRITER: [(&str, u32); 10] = [
     ("proposals", 6), ("proposals", 7), ("note", 19), ("output", 20),
 ];
 
+/// What a state's own tree and the tree that an event reaches are refused by.
+const OF_STATE: [u32; 6] = [1, 3, 4, 16, 17, 18];
+const OF_REACHED: [u32; 3] = [17, 18, 4];
+
 /// The arcs of a run that is called long.
 const LONG: usize = 50;
 
@@ -64,6 +71,14 @@ const TIE: &str = "a leftover unit by number, the tallies being equal and above 
 const PAST: &str = "a leftover unit past a lower number";
 const ONE_EACH: &str = "an arc's leftover units to users with tallies more than 1 apart";
 const MANY: &str = "a tally above 255";
+
+const ARRIVED: &str = "an arrival";
+const LEFT: &str = "a departure";
+const DEARER: &str = "a new cost that changes the shares";
+const UNPAID: &str = "a new cost that changes no share";
+const OTHER_KIND: &str = "a kind of event without a name";
+const AT_LIMIT: &str = "an event at the last of all vertices";
+const TWICE_OUTSIDE: &str = "21 on an event whose amount is above the limit";
 
 /// What judges a proposal.
 pub const ARCHIVE: &str = "the archive";
@@ -110,6 +125,43 @@ pub fn note_job_faults(tally: &mut Tally, faults: &[Fault]) {
         let meeting = job_meeting((a_list, a.number), (b_list, b.number));
         tally.met.insert(meeting);
     }
+}
+
+fn state_meeting(first: u32, second: u32) -> String {
+    format!("{first} of a state before {second} of an event")
+}
+
+fn reached_fault(number: u32) -> String {
+    format!("{number} of the tree that an event reaches")
+}
+
+/// Notes a state's only fault with that of the event, that of the tree reached,
+/// and 21 on an event whose amount would be refused too.
+pub fn note_event_faults(tally: &mut Tally, event: &ZilqodurEvent, faults: &[Fault]) {
+    match faults {
+        [("state", a), ("event", b)] => {
+            tally.met.insert(state_meeting(a.number, b.number));
+        }
+        [("event", a)] => {
+            let outside = a.number == 21 && event.kind > 1 && event.amount > COST;
+            note(tally, TWICE_OUTSIDE, outside);
+        }
+        [("tree reached", a)] => {
+            tally.met.insert(reached_fault(a.number));
+        }
+        _ => (),
+    }
+}
+
+/// Notes an event that is carried out, and whether it changes the shares.
+pub fn note_event(tally: &mut Tally, event: &ZilqodurEvent, shares: bool) {
+    let new_cost = event.kind > 1;
+    note(tally, ARRIVED, event.kind == 0);
+    note(tally, LEFT, event.kind == 1);
+    note(tally, DEARER, new_cost && shares);
+    note(tally, UNPAID, new_cost && !shares);
+    note(tally, OTHER_KIND, event.kind > 2);
+    note(tally, AT_LIMIT, event.vertex == ARCS);
 }
 
 /// The most arcs without users that follow one another from the source's side.
@@ -218,8 +270,14 @@ pub fn unmet(tally: &Tally) -> Vec<String> {
     let by = |by| PROPOSALS.map(|(total, group)| judged(by, total, group));
     let proposals = [ARCHIVE, DEFINITION].into_iter().flat_map(by);
     let reports = AUDITS.map(reported);
+    let with = |second| OF_STATE.map(|first| state_meeting(first, second));
+    let states = [21, 22].into_iter().flat_map(with);
+    let states = states.chain(OF_REACHED.map(reached_fault));
+    let events = [ARRIVED, LEFT, DEARER, UNPAID, OTHER_KIND, AT_LIMIT];
+    let events = events.into_iter().chain([TWICE_OUTSIDE]).map(String::from);
     let rare = meetings.chain(apart).chain(jobs).chain(trees);
     let rare = rare.chain(leftovers).chain(proposals).chain(reports);
+    let rare = rare.chain(states).chain(events);
     unmet.extend(rare.filter(|case| !tally.met.contains(case)));
     unmet
 }

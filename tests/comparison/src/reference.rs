@@ -14,7 +14,7 @@ pub struct Refusal {
 
 pub type Answer<T> = Result<T, Refusal>;
 
-fn refusal(number: u32, place: usize) -> Refusal {
+pub fn refusal(number: u32, place: usize) -> Refusal {
     Refusal {
         number,
         place,

@@ -3,9 +3,12 @@
 
 use crate::compare::Network;
 use crate::compare_job;
+use crate::compare_state;
+use crate::ffi::ZilqodurEvent;
 use crate::job::{self, Job};
 use crate::reference::{self, refuse, Answer, Refusal, AMOUNT};
 use crate::report;
+use crate::state::{self, State};
 use crate::tally::Tally;
 use std::fmt::Debug;
 
@@ -90,6 +93,34 @@ fn by_arc(tally: &mut Tally, n: &Network, expected: &[u64]) {
     n.split_by_arc(tally, &vec![77; expected.len()]);
 }
 
+/// The shares of the state, which is answered.
+fn made(tally: &mut Tally, n: &Network, expected: &[u64]) -> State {
+    let (found, state) = state::make(&n.parents, &n.costs, &n.marks);
+    let shares = found.map(|members| state.shares[..members].to_vec());
+    named(tally, shares, Ok(expected.to_vec()));
+    compare_state::make_state(tally, n)
+}
+
+/// The shares after an event of this vertex, kind and amount; answers the state.
+fn event(
+    tally: &mut Tally,
+    state: &State,
+    event: (usize, u32, u32),
+    expected: Answer<&[u64]>,
+) -> State {
+    let (vertex, kind, amount) = event;
+    let event = ZilqodurEvent {
+        vertex,
+        kind,
+        amount,
+    };
+    let read = compare_state::from_c(event);
+    let (found, next) = state.apply(read, &state.faults(read));
+    let shares = found.map(|members| next.shares[..members].to_vec());
+    named(tally, shares, expected.map(<[u64]>::to_vec));
+    compare_state::apply_event(tally, state, event).0
+}
+
 fn writing(tally: &mut Tally, job: &Job, room: usize, expected: Answer<usize>) {
     let found = job::write(job, &job.faults(room));
     named(tally, found.map(|bytes| bytes.len()), expected);
@@ -147,6 +178,7 @@ pub fn compare(tally: &mut Tally) {
     spare(tally);
     limits(tally, &t);
     marks(tally);
+    events(tally, &t);
     sample_job(tally, t);
 }
 
@@ -195,6 +227,28 @@ fn marks(tally: &mut Tally) {
     ] {
         check(tally, t_with(marks), expected);
     }
+}
+
+/// T, with events of kind 0 (arrive), 1 (leave) and others (new cost).
+fn events(tally: &mut Tally, t: &Network) {
+    let whole = made(tally, t, &[4, 8, 4]);
+    for (refused, expected) in [
+        ((0, 1, 0), refuse(21, 0)),
+        ((5, 0, 0), refuse(21, 5)),
+        ((2, 0, 0), refuse(22, 2)),
+        ((1, 1, 0), refuse(22, 1)),
+        ((1, 0, 0), refuse(17, 1)),
+        ((2, 2, 1_000_000_001), refuse(4, 2)),
+    ] {
+        event(tally, &whole, refused, expected);
+    }
+    let spare = event(tally, &whole, (3, 1, 0), Ok(&[7, 4]));
+    event(tally, &spare, (3, 0, 0), Ok(&[4, 8, 4]));
+    event(tally, &spare, (3, 2, 1_000_000_000), Ok(&[7, 4]));
+    let one = event(tally, &spare, (2, 1, 0), Ok(&[4]));
+    event(tally, &one, (4, 1, 0), refuse(18, 0));
+    event(tally, &whole, (1, 2, 13), Ok(&[8, 11, 4]));
+    event(tally, &whole, (1, u32::MAX, 13), Ok(&[8, 11, 4]));
 }
 
 /// T with no note, caps 100 and the proposal 8 4 4.

@@ -1,0 +1,31 @@
+-- The measure is what is left of the list.
+use Prim.Native.Nat.{_+_, _-_}
+use lib.ListN.{length}
+use borrow.Author.Needs.{needs}
+use Rattle.test_vectors.proofs.event_steps.run.Statement.{statement}
+use Rattle.test_vectors.proofs.event_steps.run.Tie as tie
+
+abbrev Inv-loop : tie.InvT-loop
+Inv-loop s state₀ at₀ state at = Unit {0}
+
+abbrev μ-loop : tie.MeasureT-loop
+μ-loop s state₀ at₀ state at = length s + 1 - at
+
+pub run-spec : {M : Type 1} → statement M
+run-spec =
+    tie.close
+    (tie.spec
+    Inv-loop
+    μ-loop
+    (λ c κs. search needs)
+    (λ c. search needs)
+    (λ c κs. search needs)
+    (λ c. search needs)
+    (λ c. search needs)
+    (λ c. search needs)
+    (λ c κs. search needs)
+    (λ c. search needs)
+    (λ c. search needs)
+    (λ c. search needs)
+    (λ c κs. search needs)
+    (λ c. search needs))
