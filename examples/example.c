@@ -1,5 +1,5 @@
 /* Audits and splits the tree T of docs/SPECIFICATION.md, §10, with a member at every dead end, then with one spare; then
- * somebody arrives there. */
+ * somebody asks what arriving there would cost, and arrives. */
 #include "zilqodur.h"
 
 #include <inttypes.h>
@@ -75,16 +75,29 @@ static void by_arc(size_t members) {
     printf("\n");
 }
 
-/* The shares after the event; a refused event leaves the state as it is. */
-static void arrive(ZilqodurStateAnswer *a, size_t vertex) {
+/* The shares that an arrival would lead to; the state stays as it is. */
+static ZilqodurQuote ask(const ZilqodurState *state, size_t vertex) {
     const ZilqodurEvent event = {vertex, ZILQODUR_ARRIVE, 0};
-    *a = zilqodur_apply_event(a->state, event);
-    if (a->refusal != ZILQODUR_NO_REFUSAL) {
-        print_refusal("arrive", a->refusal, a->place);
+    ZilqodurQuoteAnswer q = zilqodur_ask(*state, event);
+    if (q.refusal != ZILQODUR_NO_REFUSAL) {
+        print_refusal("ask", q.refusal, q.place);
     } else {
-        print_shares("arrive", a->state.shares, a->members);
+        print_shares("ask", q.shares, q.members);
     }
     printf("\n");
+    return q.quote;
+}
+
+/* The shares after the quote's event; a refused commit leaves the state as it is. */
+static void commit(ZilqodurState *state, ZilqodurQuote quote) {
+    ZilqodurStateAnswer a = zilqodur_commit(*state, quote);
+    if (a.refusal != ZILQODUR_NO_REFUSAL) {
+        print_refusal("commit", a.refusal, a.place);
+    } else {
+        print_shares("commit", a.state.shares, a.members);
+    }
+    printf("\n");
+    *state = a.state;
 }
 
 int main(void) {
@@ -103,8 +116,10 @@ int main(void) {
     by_arc(m.members);
     marks[2] = 0; /* vertex 3 is a plot that is not yet sold: nobody pays for its arc */
     by_arc(m.members - 1);
-    ZilqodurStateAnswer a = zilqodur_make_state(parents, ARCS, costs, ARCS, marks, ARCS);
-    arrive(&a, 3); /* the plot is sold */
-    arrive(&a, 3);
+    ZilqodurState state = zilqodur_make_state(parents, ARCS, costs, ARCS, marks, ARCS).state;
+    ZilqodurQuote quote = ask(&state, 3);
+    commit(&state, quote); /* the plot is sold */
+    commit(&state, quote); /* a quote is carried out once */
+    ask(&state, 3);
     return 0;
 }

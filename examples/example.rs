@@ -1,5 +1,5 @@
 // Audits and splits the tree T of docs/SPECIFICATION.md, §10, with a member at every dead end, then with one spare; then
-// somebody arrives there. The declarations are those of include/zilqodur.h.
+// somebody asks what arriving there would cost, and arrives. The declarations are those of include/zilqodur.h.
 
 #[repr(C)]
 struct ZilqodurMembers {
@@ -35,15 +35,18 @@ struct ZilqodurLevel {
 }
 
 #[repr(C)]
+#[derive(Clone, Copy)]
 struct ZilqodurState {
     arcs: usize,
     parents: [u16; 1023],
     costs: [u32; 1023],
     marks: [u16; 1023],
     shares: [u64; 1023],
+    committed: u32,
 }
 
 #[repr(C)]
+#[derive(Clone, Copy)]
 struct ZilqodurEvent {
     vertex: usize,
     kind: u32,
@@ -56,6 +59,22 @@ struct ZilqodurStateAnswer {
     place: usize,
     members: usize,
     state: ZilqodurState,
+}
+
+#[repr(C)]
+#[derive(Clone, Copy)]
+struct ZilqodurQuote {
+    event: ZilqodurEvent,
+    committed: u32,
+}
+
+#[repr(C)]
+struct ZilqodurQuoteAnswer {
+    refusal: u32,
+    place: usize,
+    members: usize,
+    quote: ZilqodurQuote,
+    shares: [u64; 1023],
 }
 
 #[link(name = "capi", kind = "static")]
@@ -124,7 +143,9 @@ unsafe extern "C" {
         marks_count: usize,
     ) -> ZilqodurStateAnswer;
 
-    fn zilqodur_apply_event(state: ZilqodurState, event: ZilqodurEvent) -> ZilqodurStateAnswer;
+    fn zilqodur_ask(state: ZilqodurState, event: ZilqodurEvent) -> ZilqodurQuoteAnswer;
+
+    fn zilqodur_commit(state: ZilqodurState, quote: ZilqodurQuote) -> ZilqodurStateAnswer;
 }
 
 const ADDS_UP: u32 = 1;
@@ -230,9 +251,14 @@ fn make_state(marks: &[u16]) -> ZilqodurStateAnswer {
     }
 }
 
-fn apply_event(state: ZilqodurState, event: ZilqodurEvent) -> ZilqodurStateAnswer {
+fn ask(state: &ZilqodurState, event: ZilqodurEvent) -> ZilqodurQuoteAnswer {
     // Safety: both are handed over by value.
-    unsafe { zilqodur_apply_event(state, event) }
+    unsafe { zilqodur_ask(*state, event) }
+}
+
+fn commit(state: &ZilqodurState, quote: ZilqodurQuote) -> ZilqodurStateAnswer {
+    // Safety: both are handed over by value.
+    unsafe { zilqodur_commit(*state, quote) }
 }
 
 fn joined(numbers: &[u64]) -> String {
@@ -283,18 +309,29 @@ fn print_by_arc(marks: &[u16], members: usize) {
     }
 }
 
-/// The shares after the event; a refused event leaves the state as it is.
-fn arrive(state: ZilqodurState, vertex: usize) -> ZilqodurState {
+/// The shares that an arrival would lead to; the state stays as it is.
+fn print_ask(state: &ZilqodurState, vertex: usize) -> ZilqodurQuote {
     let event = ZilqodurEvent {
         vertex,
         kind: ARRIVE,
         amount: 0,
     };
-    let a = apply_event(state, event);
-    if a.refusal != 0 {
-        println!("arrive refused {} at {}", a.refusal, a.place);
+    let q = ask(state, event);
+    if q.refusal != 0 {
+        println!("ask refused {} at {}", q.refusal, q.place);
     } else {
-        println!("arrive{}", joined(&a.state.shares[..a.members]));
+        println!("ask{}", joined(&q.shares[..q.members]));
+    }
+    q.quote
+}
+
+/// The shares after the quote's event; a refused commit leaves the state as it is.
+fn print_commit(state: &ZilqodurState, quote: ZilqodurQuote) -> ZilqodurState {
+    let a = commit(state, quote);
+    if a.refusal != 0 {
+        println!("commit refused {} at {}", a.refusal, a.place);
+    } else {
+        println!("commit{}", joined(&a.state.shares[..a.members]));
     }
     a.state
 }
@@ -316,7 +353,11 @@ fn main() {
     // Vertex 3 is a plot that is not yet sold: nobody pays for its arc.
     marks[2] = 0;
     print_by_arc(&marks, m.members - 1);
+    let state = make_state(&marks).state;
+    let quote = print_ask(&state, 3);
     // The plot is sold.
-    let state = arrive(make_state(&marks).state, 3);
-    arrive(state, 3);
+    let state = print_commit(&state, quote);
+    // A quote is carried out once.
+    let state = print_commit(&state, quote);
+    print_ask(&state, 3);
 }

@@ -8,11 +8,20 @@
  *
  * Group. Sixteen 64-bit words: member j is bit j % 64 of word j / 64, bit 0 being the least significant.
  *
- * State. A tree and its by-arc split by value, as the caller keeps them from one event to the next: struct ZilqodurState.
+ * State. A tree, its by-arc split and the number of events committed so far, by value, as the caller keeps them from one event to the next:
+ * struct ZilqodurState.
+ *
+ * Quote. An event is asked for first and its quote committed then. zilqodur_ask changes nothing: it gives the members and the shares that
+ * the event would lead to, and the quote. zilqodur_commit carries the quote's event out. Committed after nothing but askings and refused
+ * commits, a quote gives the members and the shares that came with it, or is refused 24. Once an event is carried out, every quote given
+ * before it is refused 23 on the state after it and on all that follow. From a state that was made, arrive, where it is carried out, and
+ * then leave at the same vertex gives the tree and the shares from before, and so does leave and then arrive; the second of the two is
+ * refused at most 24.
  *
  * Answer. Each function answers a struct. `refusal` is 0 where there is none, else one of enum ZilqodurRefusal; `place` is the arc, vertex,
  * member or bit where the fault stands, 0 for a number without a place. A field for which the answer has no value is 0. So after a refusal
- * every field but `refusal` and `place` is 0, except `shortfall` with refusal 9, and `state` after a refused event, which is as it came.
+ * every field but `refusal` and `place` is 0, `group`, `quote` and `shares` throughout, except `shortfall` with refusal 9, and `state`
+ * after a refused commit, which is as it came.
  *
  * Lists. A list is a pointer and the number of its elements. A function writes only to its lists without `const`, and to none of them
  * when it refuses. Any numbers may stand in a list; what a function cannot use it refuses.
@@ -22,9 +31,9 @@
  *   - a list has at least as many elements as its number says, `group` sixteen words, a report's `out` ZILQODUR_REPORT_ROOM bytes;
  *   - no two lists of one call overlap;
  *   - nobody else writes to the lists during the call;
- *   - 200,000 bytes of the stack are free for zilqodur_apply_event and zilqodur_make_state, which take 180,000 and 132,000 of them, and
- *     100,000 for the others, of which zilqodur_report takes 93,000, every other function at most 40,000. A state is 16,384 bytes, wherever
- *     it is handed over or comes back; those bytes are counted in.
+ *   - 240,000 bytes of the stack are free for zilqodur_commit, zilqodur_ask and zilqodur_make_state, which take 214,000, 197,000 and
+ *     140,000 of them, and 100,000 for the others, of which zilqodur_report takes 93,000, every other function at most 40,000. A state is
+ *     16,392 bytes, wherever it is handed over or comes back; those bytes are counted in.
  *
  * No function keeps anything between calls, allocates memory or does input or output; calls from several threads are safe. Link with
  * target/staticlib/libcapi.a (x86-64 Linux). */
@@ -62,7 +71,9 @@ enum ZilqodurRefusal {
     ZILQODUR_NOTE_LENGTH = 19,
     ZILQODUR_JOB_SPACE = 20,
     ZILQODUR_EVENT_VERTEX = 21, /* [vertex] */
-    ZILQODUR_EVENT_MARK = 22 /* [vertex] */
+    ZILQODUR_EVENT_MARK = 22, /* [vertex] */
+    ZILQODUR_QUOTE_NUMBER = 23,
+    ZILQODUR_EVENT_COUNT = 24
 };
 
 /* What a refusal's number says, as a sentence for a person. The strings are constants; nobody frees them. */
@@ -91,6 +102,8 @@ static inline const char *zilqodur_refusal_text(uint32_t refusal) {
         case ZILQODUR_JOB_SPACE: return "the output is shorter than the job";
         case ZILQODUR_EVENT_VERTEX: return "the event's vertex is 0, or above the number of arcs";
         case ZILQODUR_EVENT_MARK: return "arrive at a vertex whose mark is 1, or leave at one whose mark is 0";
+        case ZILQODUR_QUOTE_NUMBER: return "the quote's number is not that of the events committed so far";
+        case ZILQODUR_EVENT_COUNT: return "1,000,000 events or more are committed";
         default: return "no refusal has this number";
     }
 }
@@ -98,6 +111,10 @@ static inline const char *zilqodur_refusal_text(uint32_t refusal) {
 /* The greatest number of arcs, and so of members, of a tree: the entries of each list of a state, and those that zilqodur_read_job asks
  * of each of its four lists. */
 #define ZILQODUR_MOST_ARCS 1023
+
+/* The greatest number of events that are committed one after another on a state that was made: where so many are, or more,
+ * zilqodur_commit refuses. */
+#define ZILQODUR_MOST_EVENTS 1000000
 
 /* The number of bytes of the longest job: in `out` of zilqodur_write_job they are room for every job. */
 #define ZILQODUR_MOST_JOB_BYTES 24823
@@ -171,15 +188,16 @@ typedef struct ZilqodurLevel {
     size_t members;     /* the number of members */
 } ZilqodurLevel;
 
-/* A tree and its by-arc split. zilqodur_make_state makes one, and zilqodur_apply_event makes the next one of it. The tree is the first
- * `arcs` entries of `parents`, `costs` and `marks`; `shares` has one share a member. All other entries of a state that was made are 0. The
- * bytes between two fields say nothing: states are compared field by field. */
+/* A tree, its by-arc split and the number of events committed. zilqodur_make_state makes one, and zilqodur_commit makes the next one of it.
+ * The tree is the first `arcs` entries of `parents`, `costs` and `marks`; `shares` has one share a member. All other entries of a state
+ * that was made are 0. The bytes between two fields and after the last say nothing: states are compared field by field. */
 typedef struct ZilqodurState {
     size_t arcs; /* the number of arcs */
     uint16_t parents[ZILQODUR_MOST_ARCS];
     uint32_t costs[ZILQODUR_MOST_ARCS];
     uint16_t marks[ZILQODUR_MOST_ARCS];
     uint64_t shares[ZILQODUR_MOST_ARCS]; /* entry 0 is the share of member 0 */
+    uint32_t committed;                  /* the number of events committed so far, 0 in the state that zilqodur_make_state makes */
 } ZilqodurState;
 
 enum ZilqodurEventKind {
@@ -200,6 +218,19 @@ typedef struct ZilqodurStateAnswer {
     size_t members; /* the number of members of `state`; 0 in a refusal */
     ZilqodurState state;
 } ZilqodurStateAnswer;
+
+typedef struct ZilqodurQuote {
+    ZilqodurEvent event;
+    uint32_t committed; /* that of the state on which the event was asked for */
+} ZilqodurQuote;
+
+typedef struct ZilqodurQuoteAnswer {
+    uint32_t refusal;
+    size_t place;
+    size_t members; /* the number of members after the event */
+    ZilqodurQuote quote;
+    uint64_t shares[ZILQODUR_MOST_ARCS]; /* their shares after it, entry 0 that of member 0; all other entries are 0 */
+} ZilqodurQuoteAnswer;
 
 typedef struct ZilqodurJob {
     uint32_t refusal;
@@ -284,18 +315,23 @@ ZilqodurLevel zilqodur_split_level(const uint16_t *parents, size_t parents_count
 ZilqodurMembers zilqodur_split_by_arc(const uint16_t *parents, size_t parents_count, const uint32_t *costs, size_t costs_count,
                                       const uint16_t *marks, size_t marks_count, uint64_t *out, size_t out_count);
 
-/* Makes the state of a tree, with the shares that zilqodur_split_by_arc writes. Where the tree is refused, `state` is 0 throughout.
- * Refusals: the tree's. */
+/* Makes the state of a tree, with the shares that zilqodur_split_by_arc writes and with no event committed. Where the tree is refused,
+ * `state` is 0 throughout. Refusals: the tree's. */
 ZilqodurStateAnswer zilqodur_make_state(const uint16_t *parents, size_t parents_count, const uint32_t *costs, size_t costs_count,
                                         const uint16_t *marks, size_t marks_count);
 
-/* Carries out an event: `state` is the one that zilqodur_make_state makes of the tree that the event reaches. Any state, vertex, kind and
- * amount may be handed over; entries past the first `arcs` are not looked at, and the shares never. A refused event changes nothing:
- * `state` is as it came, every entry of it, also where it was not made by these functions. From a state that was made, arrive, where it
- * is not refused, and then leave at the same vertex gives the state before; so does leave and then arrive. Refusals, in this order: of
- * the state's tree 1 on `arcs`, then 3, 4, 16 and 17 arc by arc, then 18; then 21, 22; then of the tree that the event would reach 17, 18
- * and 4, of which 17 and 4 are at the vertex. */
-ZilqodurStateAnswer zilqodur_apply_event(ZilqodurState state, ZilqodurEvent event);
+/* Asks for an event: `members` and `shares` are those of the state that zilqodur_make_state makes of the tree that the event reaches, and
+ * `quote` is the event with `committed` of the state. The quote's kind is 0, 1 or 2, and its amount 0 unless that is a new cost. Any state,
+ * vertex, kind and amount may be handed over; entries past the first `arcs` are not looked at, and the shares never. In a refusal `quote`
+ * is 0 throughout, and a quote of vertex 0 is never carried out. Refusals, in this order: of the state's tree 1 on `arcs`, then 3, 4, 16
+ * and 17 arc by arc, then 18; then 21, 22; then of the tree that the event would reach 17, 18 and 4, of these 17 and 4 at the vertex. */
+ZilqodurQuoteAnswer zilqodur_ask(ZilqodurState state, ZilqodurEvent event);
+
+/* Commits a quote: `state` is the one that zilqodur_make_state makes of the tree that the quote's event reaches, but with `committed` one
+ * more than in the state handed over. Any state and any quote may be handed over, also a quote that zilqodur_ask gave on another state or
+ * never gave. A refused commit changes nothing: `state` is as it came, every entry of it and `committed`, also where it was not made by
+ * these functions. Refusals, in this order: 23, 24, then those of zilqodur_ask. */
+ZilqodurStateAnswer zilqodur_commit(ZilqodurState state, ZilqodurQuote quote);
 
 /* Reads a job's bytes into the front of the four lists and keeps their other entries. Each list has at least ZILQODUR_MOST_ARCS entries.
  * A job has four parts, each beginning where the one before it ends. Numbers are little-endian; their widths in bytes stand in brackets.

@@ -12,7 +12,7 @@ PATH="$PATH:${HOME:-}/.cargo/bin"
 archive=target/staticlib/libcapi.a
 report=target/bin/report
 report_test=tests/report_program.py
-header_test=tests/c/header.c
+header_test=(tests/c/{header,expect,lists,states,jobs}.c)
 stack_test=tests/c/stack.c
 sample_job=crates/report/stdin
 build_rust=tests/comparison/build.sh
@@ -115,7 +115,7 @@ program_in_the_README() {
 
 # The test of the header as C.
 header_in_C() {
-    gcc -std=c99 "${warnings[@]}" -Iinclude $header_test $archive -o "$out/header_c" && "$out/header_c" $sample_job
+    gcc -std=c99 "${warnings[@]}" -Iinclude "${header_test[@]}" $archive -o "$out/header_c" && "$out/header_c" $sample_job
 }
 
 # The stack that the header asks for. Symbols are looked up before the program starts, so that the loader takes nothing
@@ -126,7 +126,7 @@ stack() {
 
 # The test of the header as C++.
 header_in_C++() {
-    g++ -std=c++11 "${warnings[@]}" -Iinclude -x c++ $header_test -x none $archive -o "$out/header_cpp" &&
+    g++ -std=c++11 "${warnings[@]}" -Iinclude -x c++ "${header_test[@]}" -x none $archive -o "$out/header_cpp" &&
         "$out/header_cpp" $sample_job
 }
 

@@ -1,7 +1,7 @@
 //! Each entry of the archive beside the same in Rust: answers and lists
 //! compared, or the time of a call taken.
 
-use crate::ffi::ZilqodurEvent;
+use crate::ffi::{ZilqodurEvent, ZilqodurQuote};
 use crate::job::Job;
 use crate::measure::medians;
 use crate::networks::Network;
@@ -10,9 +10,9 @@ use crate::{best, ffi, same};
 use std::hint::black_box;
 
 #[rustfmt::skip]
-pub const ENTRIES: [&str; 12] = [
+pub const ENTRIES: [&str; 13] = [
     "needs", "total", "group search", "by-arc", "level", "job reader", "dead ends", "cap sums",
-    "job length", "job writer", "make state", "apply event",
+    "job length", "job writer", "make state", "ask", "commit",
 ];
 
 pub const LEVEL: usize = 4;
@@ -144,27 +144,40 @@ fn compare_jobs(n: &Network) {
     );
 }
 
-/// A new cost, at most half the old one, of the first member's own arc.
-fn cheaper(n: &Network) -> ZilqodurEvent {
+/// A new cost, at most half the old one, of the first member's own arc, before
+/// any event is committed.
+fn cheaper(n: &Network) -> ZilqodurQuote {
     let first = n.marks.iter().position(|&mark| mark == 1);
     let first = first.expect("somebody is a member");
-    ZilqodurEvent {
+    let event = ZilqodurEvent {
         vertex: first + 1,
         kind: 2,
         amount: n.costs[first] / 2,
+    };
+    ZilqodurQuote {
+        event,
+        committed: 0,
     }
 }
 
-/// The state, and events of each kind at the first member's vertex.
+/// The state, events of each kind at the first member's vertex, and quotes of
+/// the state's number and of another.
 fn compare_states(n: &Network) {
     let made = ffi::make_state(&n.parents, &n.costs, &n.marks);
     let same = same::make_state(&n.parents, &n.costs, &n.marks);
     assert!(made == same, "the states made differ");
     for kind in 0..3 {
-        let event = ZilqodurEvent { kind, ..cheaper(n) };
-        let next = ffi::apply_event(&made.state, event);
-        let same = same::apply_event(&made.state, event);
-        assert!(next == same, "the states after an event differ");
+        let mut quote = cheaper(n);
+        quote.event.kind = kind;
+        let asked = ffi::ask(&made.state, quote.event);
+        let same = same::ask(&made.state, quote.event);
+        assert!(asked == same, "the quotes differ");
+        for committed in [0, 1] {
+            quote.committed = committed;
+            let next = ffi::commit(&made.state, quote);
+            let same = same::commit(&made.state, quote);
+            assert!(next == same, "the states after a commit differ");
+        }
     }
 }
 
@@ -270,20 +283,29 @@ fn make_state(n: &Network) -> Calls<'_> {
     ]
 }
 
-fn apply_event(n: &Network) -> Calls<'_> {
+fn ask(n: &Network) -> Calls<'_> {
     let state = ffi::make_state(&n.parents, &n.costs, &n.marks).state;
-    let event = cheaper(n);
+    let event = cheaper(n).event;
     vec![
-        Box::new(move || used(ffi::apply_event(black_box(&state), event))),
-        Box::new(move || used(same::apply_event(black_box(&state), event))),
+        Box::new(move || used(ffi::ask(black_box(&state), event))),
+        Box::new(move || used(same::ask(black_box(&state), event))),
+    ]
+}
+
+fn commit(n: &Network) -> Calls<'_> {
+    let state = ffi::make_state(&n.parents, &n.costs, &n.marks).state;
+    let quote = cheaper(n);
+    vec![
+        Box::new(move || used(ffi::commit(black_box(&state), quote))),
+        Box::new(move || used(same::commit(black_box(&state), quote))),
     ]
 }
 
 /// The calls of each entry, in the order of their names.
 #[rustfmt::skip]
-const CALLS: [fn(&Network) -> Calls<'_>; 12] = [
+const CALLS: [fn(&Network) -> Calls<'_>; 13] = [
     needs, total, search, by_arc, level, job, dead_ends, cap_sums, job_length, job_writer,
-    make_state, apply_event,
+    make_state, ask, commit,
 ];
 
 /// The times of one entry on each of the networks.

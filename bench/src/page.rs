@@ -91,9 +91,9 @@ pub fn print_growth(rows: &[Row], from: usize, to: usize) {
     );
     print!("| Network | Arcs | needs | total | group search | dead ends | cap sums ");
     print!("| Job bytes | job reader | job length | job writer ");
-    print!("| Sum of users | by-arc | make state | apply event ");
+    print!("| Sum of users | by-arc | make state | ask | commit ");
     println!("| level | level, best |");
-    println!("|---{}|", "|--:".repeat(16));
+    println!("|---{}|", "|--:".repeat(17));
     let at = |arcs| rows.iter().filter(move |row| row.arcs == arcs);
     for (a, b) in at(from).zip(at(to)) {
         let engine = |entry: usize| b.times[entry].engine / a.times[entry].engine;
@@ -106,6 +106,7 @@ pub fn print_growth(rows: &[Row], from: usize, to: usize) {
         print!("| {:.1} | {:.1} ", engine(8), engine(9));
         print!("| {:.1} | {:.1} ", factor(a.users, b.users), engine(3));
         print!("| {:.1} | {:.1} ", engine(10), engine(11));
+        print!("| {:.1} ", engine(12));
         println!("| {:.1} | {:.1} |", engine(LEVEL), best(b) / best(a));
     }
 }

@@ -88,7 +88,22 @@ from events import (
     unused_costs,
 )
 from raw_states import arc_counts, event_order, faulty_states, last_faults, past_arcs, random_states
+from quotes import (
+    at_once,
+    every_asking,
+    far_askings,
+    high_bits,
+    kept_quotes,
+    large_quotes,
+    last_event,
+    many_committed,
+    other_states,
+    quote_order,
+    random_quotes,
+    two_quotes,
+)
 from stated_events import STATED_EVENTS
+from stated_quotes import STATED_QUOTES
 from unreadable import UNREADABLE
 
 
@@ -174,6 +189,7 @@ STATED = [
     (("write", bytes(256), *T_VALUES, 352), "refused 19 at 0, refused 19 at 0; others kept"),
     (("write", b"", [0, 2], [LARGE, 1], [], [], 0), "refused 4 at 1, refused 4 at 1; others kept"),
     *STATED_EVENTS,
+    *STATED_QUOTES,
 ]
 
 PARTS = [
@@ -254,6 +270,18 @@ PARTS = [
     faulty_states,
     event_order,
     random_states,
+    at_once,
+    two_quotes,
+    many_committed,
+    last_event,
+    other_states,
+    kept_quotes,
+    quote_order,
+    high_bits,
+    random_quotes,
+    every_asking,
+    far_askings,
+    large_quotes,
 ]
 
 MOST_INPUT = 6 << 20

@@ -23,7 +23,7 @@ pub use job::read_job;
 pub use level::{answer as level_answer, split_level};
 pub use needs::list_needs;
 pub use search::find_group;
-pub use states::{apply_event, make_state};
+pub use states::{ask, commit, make_state};
 pub use total::check_total;
 pub use writer::{job_length, write_job};
 

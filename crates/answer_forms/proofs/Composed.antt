@@ -4,6 +4,7 @@
 --   turned-down, stopped, went-on                 what a composition finds, by its first part
 --   then-nothing, then-same                       what a composition finds, by its second part
 --   answered, refused-answer                      from an answer to its check
+--   fault-holds, then-holds                       what holds of a composition's parts
 use Prim.Native.Nat.{ℕ}
 use mathlib.Core.Path.{_≡_, refl, _∙_}
 use mathlib.Core.Bool.{Bool, true, false}
@@ -61,3 +62,13 @@ pub refused-answer : {A : Type 0} (check : Check) (x : A) {number place : ℕ} �
     → check ≡ refused number place
 refused-answer accepted x e = let z : _≡_ {A = ℕ} 0 1 = cc in absurd (omega arith)
 refused-answer (refused number place) x e = cc
+
+module _ (Holds : Check → Type 0) where
+  pub fault-holds : (b : Bool) {number place : ℕ} → Holds accepted → Holds (refused number place)
+      → Holds (fault b number place)
+  fault-holds true nothing found = found
+  fault-holds false nothing found = nothing
+
+  pub then-holds : (a b : Check) → Holds a → Holds b → Holds (a then b)
+  then-holds accepted b first second = second
+  then-holds (refused number place) b first second = first

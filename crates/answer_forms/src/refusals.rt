@@ -65,3 +65,9 @@ pub const EVENT_VERTEX: u32 = 21;
 
 // Arrive at a vertex whose mark is 1, or leave at one whose mark is 0.
 pub const EVENT_MARK: u32 = 22;
+
+// The quote's number is not that of the events committed so far.
+pub const QUOTE_NUMBER: u32 = 23;
+
+// 1,000,000 events or more are committed.
+pub const EVENT_COUNT: u32 = 24;

@@ -14,4 +14,8 @@ mod InTurn
 pub mod ByArcLaws
 pub mod Unused
 pub mod Reached
+pub mod Numbers
+pub mod MadeStates
 pub mod EventLaws
+mod Committed
+pub mod QuoteLaws

@@ -19,7 +19,8 @@ use Rattle.answers.specs.CapSums.{runningTo, capSumsAnswer, capSumsList}
 use Rattle.game.specs.ByArc.{tallied, giveArc, handled}
 use Rattle.answers.specs.ByArc.{byArcAnswer, byArcList}
 use Rattle.answers.specs.States.{padded, madeState, treeIn, stateCheck}
-use Rattle.answers.specs.Events.{outcomeCheck, eventCheck, applyAnswer, appliedState}
+use Rattle.answers.specs.Events.{outcomeCheck, eventCheck}
+use Rattle.answers.specs.Quotes.{askAnswer, askedShares, commitCheck, commitAnswer, committedState}
 use Rattle.answers.specs.Table.{Table}
 
 pub table : Table
@@ -27,8 +28,8 @@ unfolding climb used groupCost sumBelow wholeCost membersTo hasChild deadEnds co
     groups best named arcByArc treeCheck plainCheck deadEndsAnswer deadEndsList bitsCheck rangeCheck
     memberCountAnswer membersAnswer membersList needsAnswer needsList groupCostAnswer totalAnswer searchAnswer
     searchWords firstLeast units arcsDown shortArc levelAnswer levelList tallied giveArc handled byArcAnswer
-    byArcList runningTo capSumsAnswer capSumsList padded madeState treeIn stateCheck outcomeCheck eventCheck applyAnswer
-    appliedState
+    byArcList runningTo capSumsAnswer capSumsList padded madeState treeIn stateCheck outcomeCheck eventCheck askAnswer
+    askedShares commitCheck commitAnswer committedState
 table =
     record {
       T-members = refl;
@@ -104,11 +105,18 @@ table =
       spare-cap-sums = refl;
       spare-cap-sums-list = refl;
       T-made = refl;
+      T-ask-leave-3 = refl;
+      T-ask-leave-3-shares = refl;
       T-leave-3 = refl;
       T-leave-3-state = refl;
+      T-leave-3-again = refl;
+      T-leave-3-again-state = refl;
       T-arrive-3 = refl;
       T-arrive-3-state = refl;
+      T-untidy-ask-leave-3 = refl;
       T-untidy-leave-3 = refl;
+      T-ask-arrive-1 = refl;
+      T-ask-arrive-1-shares = refl;
       T-arrive-1 = refl;
       T-arrive-1-state = refl;
       T-arrive-2 = refl;
@@ -117,6 +125,14 @@ table =
       T-dearest = refl;
       T-too-dear = refl;
       T-last-leaves = refl;
+      T-last-event = refl;
+      T-full-up = refl;
+      T-full-up-state = refl;
+      T-full-up-ask = refl;
+      T-full-up-other = refl;
+      T-full-up-21 = refl;
       refused-made = refl;
+      no-state-ask = refl;
       no-state = refl;
+      no-state-other = refl;
     }

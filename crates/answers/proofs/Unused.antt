@@ -145,7 +145,7 @@ stubs-free s t s-ok t-ok differ =
           by-both (λ c n. written (summed caps out c n) out (list (n .arcs) (runningSum n caps)));
       by-arc = λ out. by-both (λ c n. answer (c then outputCheck (memberCount n) out) (memberCount n));
       by-arc-list = λ out. by-both (λ c n. written (c then outputCheck (memberCount n) out) out (byArc n));
-      shares = rw (s-ok, t-ok) (ap (λ (n : Network). padded (byArc n)) (same-network s t differ));
+      shares = λ k. rw (s-ok, t-ok) (ap (λ (n : Network). padded (byArc n)) (same-network s t differ));
     }
   where
     check : treeCheck s ≡ treeCheck t

@@ -1,4 +1,4 @@
--- Events on a state: their refusals, the answer, and the state afterwards.
+-- Events: the tree that one reaches, and the refusals.
 use Prim.Native.Nat.{ℕ, zero, suc}
 use mathlib.Core.Bool.{Bool, false, _||_, _&&_, not}
 use mathlib.Core.List.{List}
@@ -6,10 +6,9 @@ use lib.ListN.{length, set}
 use lib.Dec.{eqb, ltb}
 use Rattle.basics.specs.Sum.{some}
 use Rattle.limits.specs.Limits.{mostCost}
-use Rattle.game.specs.Network.{memberCount}
-use Rattle.game.specs.Tree.{Tree, treeOf, network, ofArc, hasChild, marked}
-use Rattle.answer_forms.specs.Answer.{Check, Answer, fault, _then_, answer, written}
-use Rattle.answers.specs.States.{State, madeState, treeIn, stateCheck}
+use Rattle.game.specs.Tree.{Tree, treeOf, ofArc, hasChild, marked}
+use Rattle.answer_forms.specs.Answer.{Check, fault, _then_}
+use Rattle.answers.specs.States.{State, treeIn, stateCheck}
 
 pub data Change : Type 0 where
   arrive : Change
@@ -66,13 +65,6 @@ fitCheck t e =
 unfoldable pub eventCheck : Tree → Event → Check
 eventCheck t e = fitCheck t e then outcomeCheck (reached t e) (e .vertex)
 
+-- an event on a state
 abbrev pub applyCheck : State → Event → Check
 applyCheck s e = stateCheck s then eventCheck (treeIn s) e
-
--- the number of members after the event
-unfoldable pub applyAnswer : State → Event → Answer ℕ
-applyAnswer s e = answer (applyCheck s e) (memberCount (network (reached (treeIn s) e)))
-
--- the state made of the tree reached
-unfoldable pub appliedState : State → Event → State
-appliedState s e = written (applyCheck s e) s (madeState (reached (treeIn s) e))

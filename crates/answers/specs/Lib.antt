@@ -8,6 +8,7 @@ pub mod CapSums
 pub mod ByArc
 pub mod States
 pub mod Events
+pub mod Quotes
 pub mod DeadEnds
 pub mod Limits
 pub mod Laws
@@ -17,5 +18,6 @@ pub mod LevelLaws
 pub mod CapSumsLaws
 pub mod ByArcLaws
 pub mod EventLaws
+pub mod QuoteLaws
 pub mod Unused
 pub mod Table

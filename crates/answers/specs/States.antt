@@ -1,4 +1,4 @@
--- States: a tree and its by-arc shares, by value.
+-- States: a tree, its by-arc shares and the number of events committed, by value.
 use Prim.Native.Nat.{ℕ, _-_}
 use mathlib.Core.List.{List, [], _++_}
 use lib.ListN.{length, take, replicate}
@@ -17,29 +17,31 @@ pub record State : Type 0 where
   pub costs : List ℕ
   pub marks : List ℕ
   pub shares : List ℕ
+  pub committed : ℕ
 
 -- a list with 0 past its end, 1,023 entries in all
 unfoldable pub padded : List ℕ → List ℕ
 padded l = l ++ replicate (mostArcs - length l) 0
 
--- a tree and shares as a state holds them
-abbrev pub holding : Tree → List ℕ → State
-holding t shares =
+-- a tree and shares as a state holds them, with n events committed
+abbrev pub holding : Tree → List ℕ → ℕ → State
+holding t shares n =
     record {
       arcs = length (t .parents);
       parents = padded (t .parents);
       costs = padded (t .costs);
       marks = padded (t .marks);
       shares = padded shares;
+      committed = n;
     }
 
 -- the state that is 0 throughout
 abbrev pub noState : State
-noState = holding (treeOf [] [] []) []
+noState = holding (treeOf [] [] []) [] 0
 
--- the state made of a tree, 0 throughout where the tree is refused
-unfoldable pub madeState : Tree → State
-madeState t = written (treeCheck t) noState (holding t (byArc (network t)))
+-- the state made of a tree, with n events committed; 0 throughout where the tree is refused
+unfoldable pub madeState : Tree → ℕ → State
+madeState t n = written (treeCheck t) noState (holding t (byArc (network t)) n)
 
 -- the tree of a state: the first entries of its lists, as many as it has arcs
 unfoldable pub treeIn : State → Tree

@@ -15,7 +15,8 @@ use Rattle.answers.specs.Level.{split, refusal, levelAnswer, levelList}
 use Rattle.answers.specs.CapSums.{capSumsAnswer, capSumsList}
 use Rattle.answers.specs.ByArc.{byArcAnswer, byArcList}
 use Rattle.answers.specs.States.{State, noState, madeState}
-use Rattle.answers.specs.Events.{arrive, leave, newCost, eventAt, applyAnswer, appliedState}
+use Rattle.answers.specs.Events.{arrive, leave, newCost, eventAt}
+use Rattle.answers.specs.Quotes.{Quote, quoteAt, askAnswer, askedShares, commitAnswer, committedState}
 
 -- the tree T of the specification, §10
 abbrev pub T : Tree
@@ -53,27 +54,35 @@ lent n = replicate n 77
 abbrev pub zeroFrom : ℕ → List ℕ
 zeroFrom i = replicate (1023 - i) 0
 
--- the state that holds T with these marks and shares
-abbrev pub T-state : List ℕ → List ℕ → State
-T-state marks shares =
+-- the state that holds T with these marks and shares, n events committed
+abbrev pub T-state : List ℕ → List ℕ → (n : ℕ) → State
+T-state marks shares n =
     record {
       arcs = 4;
       parents = 0 ∷ 1 ∷ 1 ∷ 0 ∷ zeroFrom 4;
       costs = 6 ∷ 1 ∷ 5 ∷ 4 ∷ zeroFrom 4;
       marks = marks;
       shares = shares;
+      committed = n;
     }
 
 -- T's state, and that of T with a spare plot
-abbrev pub T-full : State
+abbrev pub T-full : ℕ → State
 T-full = T-state (0 ∷ 1 ∷ 1 ∷ 1 ∷ zeroFrom 4) (4 ∷ 8 ∷ 4 ∷ zeroFrom 3)
 
-abbrev pub T-left : State
+abbrev pub T-left : ℕ → State
 T-left = T-state (0 ∷ 1 ∷ 0 ∷ 1 ∷ zeroFrom 4) (7 ∷ 4 ∷ zeroFrom 2)
 
 -- T's state with other shares, and past arc 4 a mark that is none
-abbrev pub T-untidy : State
+abbrev pub T-untidy : ℕ → State
 T-untidy = T-state (0 ∷ 1 ∷ 1 ∷ 1 ∷ 9 ∷ zeroFrom 5) (lent 1023)
+
+-- a quote for leaving or arriving at a vertex, with n events committed
+abbrev pub leaving : (v n : ℕ) → Quote
+leaving v = quoteAt (eventAt v leave)
+
+abbrev pub arriving : (v n : ℕ) → Quote
+arriving v = quoteAt (eventAt v arrive)
 
 pub record Table : Type 0 where
   pub T-members : memberCountAnswer T ≡ value 3
@@ -152,20 +161,36 @@ pub record Table : Type 0 where
   pub T-cap-sums-short-list : capSumsList T (3 ∷ 9 ∷ 4 ∷ []) (lent 3) ≡ lent 3
   pub spare-cap-sums : capSumsAnswer T-spare (3 ∷ 4 ∷ []) (lent 4) ≡ value 7
   pub spare-cap-sums-list : capSumsList T-spare (3 ∷ 4 ∷ []) (lent 4) ≡ 3 ∷ 3 ∷ 0 ∷ 4 ∷ []
-  -- states and events
-  pub T-made : madeState T ≡ T-full
-  pub T-leave-3 : applyAnswer T-full (eventAt 3 leave) ≡ value 2
-  pub T-leave-3-state : appliedState T-full (eventAt 3 leave) ≡ T-left
-  pub T-arrive-3 : applyAnswer T-left (eventAt 3 arrive) ≡ value 3
-  pub T-arrive-3-state : appliedState T-left (eventAt 3 arrive) ≡ T-full
-  pub T-untidy-leave-3 : appliedState T-untidy (eventAt 3 leave) ≡ T-left
-  pub T-arrive-1 : applyAnswer T-untidy (eventAt 1 arrive) ≡ no 17 1
-  pub T-arrive-1-state : appliedState T-untidy (eventAt 1 arrive) ≡ T-untidy
-  pub T-arrive-2 : applyAnswer T-full (eventAt 2 arrive) ≡ no 22 2
-  pub T-arrive-0 : applyAnswer T-full (eventAt 0 arrive) ≡ no 21 0
-  pub T-leave-5 : applyAnswer T-full (eventAt 5 leave) ≡ no 21 5
-  pub T-dearest : applyAnswer T-full (eventAt 3 (newCost 1000000000)) ≡ value 3
-  pub T-too-dear : applyAnswer T-full (eventAt 3 (newCost 1000000001)) ≡ no 4 3
-  pub T-last-leaves : applyAnswer (T-state (0 ∷ 1 ∷ 0 ∷ 0 ∷ zeroFrom 4) (zeroFrom 0)) (eventAt 2 leave) ≡ no 18 0
-  pub refused-made : madeState (T-marked 0 0 0 0) ≡ noState
-  pub no-state : applyAnswer noState (eventAt 1 arrive) ≡ no 1 0
+  -- states, askings and commits
+  pub T-made : madeState T 0 ≡ T-full 0
+  pub T-ask-leave-3 : askAnswer (T-full 0) (eventAt 3 leave) ≡ value (record { members = 2; quote = leaving 3 0 })
+  pub T-ask-leave-3-shares : askedShares (T-full 0) (eventAt 3 leave) ≡ 7 ∷ 4 ∷ zeroFrom 2
+  pub T-leave-3 : commitAnswer (T-full 0) (leaving 3 0) ≡ value 2
+  pub T-leave-3-state : committedState (T-full 0) (leaving 3 0) ≡ T-left 1
+  pub T-leave-3-again : commitAnswer (T-left 1) (leaving 3 0) ≡ no 23 0
+  pub T-leave-3-again-state : committedState (T-left 1) (leaving 3 0) ≡ T-left 1
+  pub T-arrive-3 : commitAnswer (T-left 1) (arriving 3 1) ≡ value 3
+  pub T-arrive-3-state : committedState (T-left 1) (arriving 3 1) ≡ T-full 2
+  pub T-untidy-ask-leave-3 : askedShares (T-untidy 7) (eventAt 3 leave) ≡ 7 ∷ 4 ∷ zeroFrom 2
+  pub T-untidy-leave-3 : committedState (T-untidy 7) (leaving 3 7) ≡ T-left 8
+  pub T-ask-arrive-1 : askAnswer (T-untidy 7) (eventAt 1 arrive) ≡ no 17 1
+  pub T-ask-arrive-1-shares : askedShares (T-untidy 7) (eventAt 1 arrive) ≡ zeroFrom 0
+  pub T-arrive-1 : commitAnswer (T-untidy 7) (arriving 1 7) ≡ no 17 1
+  pub T-arrive-1-state : committedState (T-untidy 7) (arriving 1 7) ≡ T-untidy 7
+  pub T-arrive-2 : commitAnswer (T-full 0) (arriving 2 0) ≡ no 22 2
+  pub T-arrive-0 : commitAnswer (T-full 0) (arriving 0 0) ≡ no 21 0
+  pub T-leave-5 : commitAnswer (T-full 0) (leaving 5 0) ≡ no 21 5
+  pub T-dearest : commitAnswer (T-full 0) (quoteAt (eventAt 3 (newCost 1000000000)) 0) ≡ value 3
+  pub T-too-dear : commitAnswer (T-full 0) (quoteAt (eventAt 3 (newCost 1000000001)) 0) ≡ no 4 3
+  pub T-last-leaves : commitAnswer (T-state (0 ∷ 1 ∷ 0 ∷ 0 ∷ zeroFrom 4) (zeroFrom 0) 0) (leaving 2 0) ≡ no 18 0
+  -- the last event that there may be, and one more; the quote's number comes first, then 24, then all else
+  pub T-last-event : committedState (T-full 999999) (leaving 3 999999) ≡ T-left 1000000
+  pub T-full-up : commitAnswer (T-left 1000000) (arriving 3 1000000) ≡ no 24 0
+  pub T-full-up-state : committedState (T-left 1000000) (arriving 3 1000000) ≡ T-left 1000000
+  pub T-full-up-ask : askedShares (T-left 1000000) (eventAt 3 arrive) ≡ 4 ∷ 8 ∷ 4 ∷ zeroFrom 3
+  pub T-full-up-other : commitAnswer (T-left 1000000) (arriving 3 999999) ≡ no 23 0
+  pub T-full-up-21 : commitAnswer (T-left 1000000) (leaving 0 1000000) ≡ no 24 0
+  pub refused-made : madeState (T-marked 0 0 0 0) 0 ≡ noState
+  pub no-state-ask : askAnswer noState (eventAt 1 arrive) ≡ no 1 0
+  pub no-state : commitAnswer noState (arriving 1 0) ≡ no 1 0
+  pub no-state-other : commitAnswer noState (arriving 1 1) ≡ no 23 0

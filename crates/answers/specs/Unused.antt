@@ -55,7 +55,7 @@ pub record SameAnswers (s t : Tree) : Type 0 where
   pub by-arc : (out : List ℕ) → byArcAnswer s out ≡ byArcAnswer t out
   pub by-arc-list : (out : List ℕ) → byArcList s out ≡ byArcList t out
   -- a state holds the costs as they are handed in, but the same shares
-  pub shares : madeState s .shares ≡ madeState t .shares
+  pub shares : (n : ℕ) → madeState s n .shares ≡ madeState t n .shares
 
 -- nobody pays for a stub
 abbrev pub StubStatement : Type 0

@@ -1,21 +1,23 @@
 -- No check refuses with number 0, so what it finds can be read back from its struct.
 use Prim.Native.Nat.{ℕ, zero, suc, _+_, _*_}
 use mathlib.Core.Path.{_≡_, refl, subst}
-use mathlib.Core.Bool.{Bool, true, false, _||_, _&&_, not}
+use mathlib.Core.Bool.{Bool, _||_, not}
 use mathlib.Core.List.{List, [], _∷_}
 use lib.ListN.{length}
 use lib.Dec.{eqb, ltb, leb}
-use Rattle.game.specs.Tree.{Tree, ofArc, hasChild, marked, deadEndTree}
-use Rattle.basics.specs.Sum.{some}
+use Rattle.game.specs.Tree.{Tree, deadEndTree}
 use Rattle.basics.specs.Bit.{bit}
-use Rattle.answer_forms.specs.Answer.{Check, accepted, refused, fault, _then_}
-use Rattle.limits.specs.Limits.{mostArcs, mostCost}
-use Rattle.answers.specs.Checks.{unlike, arcCheck, markCheck, arcByArc, treeCheck, plainCheck, bitsCheck, rangeCheck}
+use Rattle.answer_forms.specs.Answer.{Check, fault, _then_}
+use Rattle.answer_forms.proofs.Composed.{fault-holds, then-holds}
+use Rattle.limits.specs.Limits.{mostArcs, mostEvents}
+use Rattle.answers.specs.Checks.{treeCheck, plainCheck, bitsCheck, rangeCheck}
 use Rattle.answers.specs.Checks.{memberListCheck, outputCheck, outsideShare}
 use Rattle.answers.specs.Level.{outsideCap}
-use Rattle.answers.specs.States.{State, treeIn, stateCheck}
-use Rattle.answers.specs.Events.{Event, reached, markedSo, fitCheck, outcomeCheck, eventCheck, applyCheck}
+use Rattle.answers.specs.States.{State}
+use Rattle.answers.specs.Events.{Event, applyCheck}
+use Rattle.answers.specs.Quotes.{Quote, limitCheck, numberCheck, commitCheck}
 use Rattle.answers.proofs.DeadEnds.{plain-check}
+use Rattle.answers.proofs.Numbers.{by-tree, by-apply}
 use Rattle.job_bytes.specs.JobBytes.{Contents, jobBytes}
 use Rattle.job_bytes.specs.Format.{arcOffset, memberOffset, version, closing0, closing1, jobArcs, jobMembers, jobCaps}
 use Rattle.job_bytes.specs.Format.{jobProposals, fillerAt}
@@ -29,66 +31,31 @@ abbrev pub Kept : Check → Type 0
 Kept c = decodeCheck (encodeCheck c) ≡ c
 
 fault-kept : (b : Bool) (n place : ℕ) → Kept (fault b (suc n) place)
-fault-kept true n place = refl
-fault-kept false n place = refl
+fault-kept b n place = fault-holds Kept b refl refl
 
 pub then-kept : (a b : Check) → Kept a → Kept b → Kept (a then b)
-then-kept accepted b first second = second
-then-kept (refused number place) b first second = first
+then-kept = then-holds Kept
 
 fault-then-kept : (b : Bool) (n place : ℕ) (next : Check) → Kept next → Kept (fault b (suc n) place then next)
 fault-then-kept b n place next = then-kept (fault b (suc n) place) next (fault-kept b n place)
 
-arc-kept : (parents costs : List ℕ) (k : ℕ) → Kept (arcCheck parents costs k)
-arc-kept parents costs k =
-    fault-then-kept (leb k (ofArc parents k)) 2 k _ (fault-kept (ltb mostCost (ofArc costs k)) 3 k)
-
-mark-kept : (parents marks : List ℕ) (k : ℕ) → Kept (markCheck parents marks k)
-mark-kept parents marks k =
-    fault-then-kept (ltb 1 (ofArc marks k)) 15 k _ (fault-kept (marked marks k && hasChild parents k) 16 k)
-
-arc-by-arc-kept : (check : ℕ → Check) → ((k : ℕ) → Kept (check k)) → (k : ℕ) → Kept (arcByArc check k)
-unfolding arcByArc
-arc-by-arc-kept check each zero = refl
-arc-by-arc-kept check each (suc k) =
-    then-kept (arcByArc check k) (check (suc k)) (arc-by-arc-kept check each k) (each (suc k))
-
 pub tree-kept : (t : Tree) → Kept (treeCheck t)
-unfolding treeCheck
-tree-kept t =
-    let parents = t .parents in
-    fault-then-kept (eqb (length parents) 0 || ltb mostArcs (length parents)) 0 0 _
-    (fault-then-kept (unlike parents (t .costs) || unlike parents (t .marks)) 1 0 _
-    (then-kept (arcByArc _ (length parents)) _
-    (arc-by-arc-kept _
-    (λ k. then-kept (arcCheck parents (t .costs) k) (markCheck parents (t .marks) k) (arc-kept parents (t .costs) k)
-    (mark-kept parents (t .marks) k))
-    (length parents))
-    (fault-kept (not (some (length parents) (marked (t .marks)))) 17 0)))
+tree-kept = by-tree Kept refl (λ n place h. refl)
 
 -- the lists without marks are checked as the tree whose dead ends are marked
 pub plain-kept : (parents costs : List ℕ) → Kept (plainCheck parents costs)
 plain-kept parents costs = subst Kept (plain-check parents costs) (tree-kept (deadEndTree parents costs))
 
--- an event on a tree, and on a state
-event-kept : (t : Tree) (e : Event) → Kept (eventCheck t e)
-unfolding eventCheck outcomeCheck
-event-kept t e =
-    let v = e .vertex in
-    let after = reached t e in
-    then-kept (fitCheck t e) (outcomeCheck after v)
-    (fault-then-kept (eqb v 0 || ltb (length (t .parents)) v) 20 v _
-    (fault-kept (markedSo (ofArc (t .marks) v) (e .change)) 21 v))
-    (fault-then-kept (marked (after .marks) v && hasChild (after .parents) v) 16 v _
-    (fault-then-kept (not (some (length (after .parents)) (marked (after .marks)))) 17 0 _
-    (fault-kept (ltb mostCost (ofArc (after .costs) v)) 3 v)))
-
 pub apply-kept : (s : State) (e : Event) → Kept (applyCheck s e)
-unfolding stateCheck
-apply-kept s e =
-    then-kept (stateCheck s) (eventCheck (treeIn s) e)
-    (fault-then-kept (ltb mostArcs (s .arcs)) 0 0 (treeCheck (treeIn s)) (tree-kept (treeIn s)))
-    (event-kept (treeIn s) e)
+apply-kept = by-apply Kept refl (λ n place h. refl)
+
+pub commit-kept : (s : State) (q : Quote) → Kept (commitCheck s q)
+unfolding commitCheck
+commit-kept s q =
+    then-kept (numberCheck (q .committed) (s .committed)) (applyCheck s (q .event))
+    (fault-then-kept (not (eqb (q .committed) (s .committed))) 22 0 (limitCheck (s .committed))
+    (fault-kept (leb mostEvents (s .committed)) 23 0))
+    (apply-kept s (q .event))
 
 pub bits-kept : (words : List ℕ) (f j : ℕ) → Kept (bitsCheck words f j)
 unfolding bitsCheck

@@ -20,10 +20,12 @@ use Rattle.answers.specs.Level.{LevelAnswer, outsideCap, capsCheck, shortArc, l
 use Rattle.answers.specs.CapSums.{capSumsAnswer}
 use Rattle.answers.specs.ByArc.{byArcAnswer}
 use Rattle.answers.specs.States.{State as HeldState}
-use Rattle.answers.specs.Events.{Event, applyCheck, applyAnswer}
+use Rattle.answers.specs.Events.{Change, arrive, leave, newCost, Event, eventAt, applyCheck}
+use Rattle.answers.specs.Quotes.{Quote, quoteAt, QuoteValue, askAnswer, commitCheck, commitAnswer}
 use Rattle.events.specs.Outcomes.{stateOf}
 use Rattle.events.specs.declared.make.State.{State}
 use Rattle.capi.specs.declared.states.ZilqodurStateAnswer.{ZilqodurStateAnswer}
+use Rattle.capi.specs.declared.quotes.ZilqodurQuoteAnswer.{ZilqodurQuoteAnswer}
 use Rattle.job_bytes.specs.JobBytes.{Contents, jobBytes}
 use Rattle.job.specs.Reader.{Lent, readCheck, jobAnswer}
 use Rattle.job.specs.Writer.{contentsCheck, lengthAnswer, writeCheck, writeAnswer}
@@ -32,9 +34,10 @@ use Rattle.capi.specs.Structs.{encodeTotal, decodeTotal, encodeSearch, d
 use Rattle.capi.specs.Structs.{encodeLevel, decodeLevel}
 use Rattle.capi.specs.Structs.{encodeCapSums, decodeCapSums, encodeJob, decodeJob}
 use Rattle.capi.specs.Structs.{encodeJobLength, decodeJobLength}
-use Rattle.capi.specs.Structs.{encodeState, decodeState}
+use Rattle.capi.specs.Structs.{encodeState, decodeState, encodeEvent, eventBy, encodeQuote, quoteBy}
+use Rattle.capi.specs.Structs.{encodeAsked, decodeAsked}
 use Rattle.capi.proofs.Kept.{Kept, then-kept, tree-kept, plain-kept, bits-kept, list-kept, output-kept}
-use Rattle.capi.proofs.Kept.{apply-kept, read-kept, contents-kept, write-kept}
+use Rattle.capi.proofs.Kept.{apply-kept, commit-kept, read-kept, contents-kept, write-kept}
 
 -- s is the struct of an answer that can be read back: what it stands for, and that its other fields are 0
 pub stands-for : {A S : Type 0} (encode : A → S) (decode : S → A) {a found : A} {s : S} → s ≡ encode found → found ≡ a
@@ -232,9 +235,46 @@ module _ (s : State) where
   unfolding memberCountAnswer
   made-back t = state-back (treeCheck t) (memberCount (network t)) (tree-kept t)
 
-  pub applied-back : (h : HeldState) (e : Event) → decodeState (encodeState (applyAnswer h e) s) ≡ applyAnswer h e
-  unfolding applyAnswer
-  applied-back h e = state-back (applyCheck h e) _ (apply-kept h e)
+  pub committed-back : (h : HeldState) (q : Quote) → decodeState (encodeState (commitAnswer h q) s) ≡ commitAnswer h q
+  unfolding commitAnswer
+  committed-back h q = state-back (commitCheck h q) _ (commit-kept h q)
+
+-- the answer beside quoted shares
+change-back : (c : Change) (v : ℕ) → eventBy (encodeEvent v c) ≡ eventAt v c
+change-back arrive v = refl
+change-back leave v = refl
+change-back (newCost amount) v = refl
+
+quote-back : (q : Quote) → quoteBy (encodeQuote q) ≡ q
+quote-back q = ap (λ (e : Event). quoteAt e (q .committed)) (change-back (q .event .change) (q .event .vertex))
+
+module _ (shares : List ℕ) where
+  asked-value : (v : QuoteValue) → decodeAsked (encodeAsked (value v) shares) ≡ value v
+  asked-value v =
+      ap (λ (q : Quote). value (record { members = v .members; quote = q })) (quote-back (v .quote))
+
+  pub asked-back : (h : HeldState) (e : Event) → decodeAsked (encodeAsked (askAnswer h e) shares) ≡ askAnswer h e
+  unfolding askAnswer
+  asked-back h e =
+      answer-back (λ a. encodeAsked a shares) decodeAsked asked-value (λ n place. refl) (applyCheck h e) _
+      (apply-kept h e)
+
+  shares-beside : (a : Answer QuoteValue) → encodeAsked a shares .shares ≡ shares
+  shares-beside (value v) = refl
+  shares-beside (refusal number place) = refl
+
+  pub stands-quoted : {a told : Answer QuoteValue} {r : ZilqodurQuoteAnswer} {l : List ℕ}
+      → r ≡ encodeAsked told shares
+      → told ≡ a
+      → decodeAsked (encodeAsked a shares) ≡ a
+      → shares ≡ l
+      → (decodeAsked r ≡ a) × ((r ≡ encodeAsked (decodeAsked r) (r .shares)) × (r .shares ≡ l))
+  stands-quoted {told = told} {r = r} is finds back holds =
+      let stands = stands-for (λ a. encodeAsked a shares) decodeAsked is finds back in
+      let beside = ap (λ (x : ZilqodurQuoteAnswer). x .shares) is ∙ shares-beside told in (
+        stands .0,
+        (stands .1 ∙ ap (encodeAsked (decodeAsked r)) (sym beside), beside ∙ holds),
+      )
 
 pub job-back : (bytes : List ℕ) (l : Lent) → decodeJob (encodeJob (jobAnswer bytes l)) ≡ jobAnswer bytes l
 unfolding jobAnswer

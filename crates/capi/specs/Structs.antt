@@ -12,6 +12,7 @@ use Rattle.answers.specs.GroupCost.{GroupCostValue}
 use Rattle.answers.specs.Audit.{Verdict, found, none}
 use Rattle.answers.specs.Level.{LevelAnswer, split, refusal as notSplit}
 use Rattle.answers.specs.Events.{Change, arrive, leave, newCost, Event, eventAt}
+use Rattle.answers.specs.Quotes.{Quote, QuoteValue}
 use Rattle.numbers.specs.Signed.{isZero}
 use Rattle.events.specs.declared.make.State.{State}
 use Rattle.job.specs.Reader.{JobValue}
@@ -25,6 +26,8 @@ use Rattle.capi.specs.declared.cap_sums.ZilqodurCapSums.{ZilqodurCapSums
 use Rattle.capi.specs.declared.level_split.ZilqodurLevel.{ZilqodurLevel}
 use Rattle.capi.specs.declared.states.ZilqodurEvent.{ZilqodurEvent}
 use Rattle.capi.specs.declared.states.ZilqodurStateAnswer.{ZilqodurStateAnswer}
+use Rattle.capi.specs.declared.quotes.ZilqodurQuote.{ZilqodurQuote}
+use Rattle.capi.specs.declared.quotes.ZilqodurQuoteAnswer.{ZilqodurQuoteAnswer}
 use Rattle.capi.specs.declared.job_read.ZilqodurJob.{ZilqodurJob}
 use Rattle.capi.specs.declared.job_write.ZilqodurJobLength.{ZilqodurJobLength}
 use Rattle.capi.specs.declared.report.ZilqodurReport.{ZilqodurReport}
@@ -141,6 +144,32 @@ changeBy (suc (suc n)) amount = newCost amount
 
 abbrev pub eventBy : ZilqodurEvent → Event
 eventBy e = eventAt (e .vertex) (changeBy (e .kind) (e .amount))
+
+-- the event of a quote: the kind is 0, 1 or 2, and the amount 0 unless it is a new cost's
+abbrev pub encodeEvent : (vertex : ℕ) → Change → ZilqodurEvent
+encodeEvent v arrive = record { vertex = v; kind = 0; amount = 0 }
+encodeEvent v leave = record { vertex = v; kind = 1; amount = 0 }
+encodeEvent v (newCost amount) = record { vertex = v; kind = 2; amount = amount }
+
+abbrev pub encodeQuote : Quote → ZilqodurQuote
+encodeQuote q = record { event = encodeEvent (q .event .vertex) (q .event .change); committed = q .committed }
+
+abbrev pub quoteBy : ZilqodurQuote → Quote
+quoteBy q = record { event = eventBy (q .event); committed = q .committed }
+
+-- a refusal has no quote: its fields are 0
+abbrev pub noQuote : ZilqodurQuote
+noQuote = record { event = record { vertex = 0; kind = 0; amount = 0 }; committed = 0 }
+
+-- the shares are those beside the answer
+abbrev pub encodeAsked : Answer QuoteValue → List ℕ → ZilqodurQuoteAnswer
+encodeAsked (value v) shares =
+    record { refusal = 0; place = 0; members = v .members; quote = encodeQuote (v .quote); shares = shares }
+encodeAsked (refusal number place) shares =
+    record { refusal = number; place = place; members = 0; quote = noQuote; shares = shares }
+
+abbrev pub decodeAsked : ZilqodurQuoteAnswer → Answer QuoteValue
+decodeAsked s = valueOr (s .refusal) (s .place) (record { members = s .members; quote = quoteBy (s .quote) })
 
 abbrev pub encodeJob : Answer JobValue → ZilqodurJob
 encodeJob (value v) = record { refusal = 0; place = 0; arcs = v .arcs; members = v .members; note = v .note }

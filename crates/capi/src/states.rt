@@ -8,9 +8,8 @@ ghost use mathlib.Core.Path.{_≡_};
 ghost use Rattle.game.specs.Tree.{treeOf};
 ghost use Rattle.answers.specs.Members.{memberCountAnswer};
 ghost use Rattle.answers.specs.States.{madeState};
-ghost use Rattle.answers.specs.Events.{applyAnswer, appliedState};
 ghost use Rattle.engine.specs.Outcomes.{memberCountOf};
-ghost use Rattle.events.specs.Outcomes.{stateOf, changeOf};
+ghost use Rattle.events.specs.Outcomes.{stateOf, changeOf, eventOf};
 ghost use Rattle.capi.specs.Structs.{encodeState, decodeState, changeBy, eventBy};
 
 // `kind` is 0 for arrive and 1 for leave; every other number is a new cost, which alone looks at `amount`.
@@ -41,7 +40,16 @@ fn change_by(kind: u32, amount: u32) -> Change
     Change::NewCost(amount)
 }
 
-fn encode_state(found: StateAnswer) -> ZilqodurStateAnswer
+pub fn event_by(event: ZilqodurEvent) -> Event
+    ensures { λ r. ⌜ eventOf r ≡ eventBy event ⌝ }
+{
+    Event {
+        vertex: event.vertex,
+        change: change_by(event.kind, event.amount),
+    }
+}
+
+pub fn encode_state(found: StateAnswer) -> ZilqodurStateAnswer
     ensures { λ r. ⌜ r ≡ encodeState (memberCountOf (found .answer)) (found .state) ⌝ }
 {
     let counted = found.answer;
@@ -65,23 +73,7 @@ pub extern "C" fn zilqodur_make_state(
         ≡ memberCountAnswer (treeOf (now (parents .entry)) (now (costs .entry)) (now (marks .entry))) ⌝ }
     ensures { λ r. ⌜ r ≡ encodeState (decodeState r) (r .state) ⌝ }
     ensures { λ r. ⌜ stateOf (r .state)
-        ≡ madeState (treeOf (now (parents .entry)) (now (costs .entry)) (now (marks .entry))) ⌝ }
+        ≡ madeState (treeOf (now (parents .entry)) (now (costs .entry)) (now (marks .entry))) 0 ⌝ }
 {
     encode_state(events::make_state(parents, costs, marks))
-}
-
-#[no_mangle]
-pub extern "C" fn zilqodur_apply_event(state: State, event: ZilqodurEvent) -> ZilqodurStateAnswer
-    ensures { λ r. ⌜ decodeState r ≡ applyAnswer (stateOf state) (eventBy event) ⌝ }
-    ensures { λ r. ⌜ r ≡ encodeState (decodeState r) (r .state) ⌝ }
-    ensures { λ r. ⌜ stateOf (r .state) ≡ appliedState (stateOf state) (eventBy event) ⌝ }
-{
-    let change = change_by(event.kind, event.amount);
-    encode_state(events::apply_event(
-        state,
-        Event {
-            vertex: event.vertex,
-            change,
-        },
-    ))
 }

@@ -3,4 +3,5 @@ mod Arrays
 mod Counted
 mod Made
 mod Carried
+mod Quoted
 pub mod OneToOne

@@ -54,11 +54,11 @@ module _ (t : Tree) (n : ℕ) (counts : n ≡ memberCount (network t)) (few : n 
         ∙ ap (λ (i : ℕ). replicate {A = ℕ} i 0) {x = mostArcs - (n - 0)} {y = mostArcs - length (byArc (network t))}
         (omega (arith, shares-length)))
 
-module _ (t : Tree) (ok : treeCheck t ≡ accepted) {ps cs ms shares : List ℕ} where
+module _ (t : Tree) (ok : treeCheck t ≡ accepted) {ps cs ms shares : List ℕ} {n : ℕ} where
   pub made : ps ≡ padded (t .parents) → cs ≡ padded (t .costs) → ms ≡ padded (t .marks)
       → shares ≡ padded (byArc (network t))
       → _≡_ {A = State}
-      (record { arcs = length (t .parents); parents = ps; costs = cs; marks = ms; shares = shares })
-      (madeState t)
+      (record { arcs = length (t .parents); parents = ps; costs = cs; marks = ms; shares = shares; committed = n })
+      (madeState t n)
   unfolding madeState
   made p c m s = rw (ok, p, c, m, s)

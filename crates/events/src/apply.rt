@@ -1,4 +1,4 @@
-// An event on a state.
+// An event carried out on a state.
 use crate::changes::Change;
 use crate::changes::Event;
 use crate::changes::check_event;
@@ -20,7 +20,7 @@ ghost use Rattle.answer_forms.specs.Answer.{accepted, answer, written};
 ghost use Rattle.answers.specs.Checks.{treeCheck};
 ghost use Rattle.answers.specs.Members.{memberCountAnswer};
 ghost use Rattle.answers.specs.States.{madeState, treeIn};
-ghost use Rattle.answers.specs.Events.{changedAt, reached, eventCheck, applyAnswer, appliedState};
+ghost use Rattle.answers.specs.Events.{changedAt, reached, eventCheck, applyCheck};
 ghost use Rattle.engine.specs.Outcomes.{memberCountOf};
 ghost use Rattle.events.specs.Outcomes.{stateOf, changeOf, eventOf};
 
@@ -47,20 +47,28 @@ fn changed(state: State, vertex: usize, change: Change) -> State
     next
 }
 
-// The state made of the tree of `next`, which has this number of members; where that is refused, `state`.
-fn carry_out(state: State, next: State, members: usize) -> StateAnswer
+// The state made of the tree of `next`, which has this number of members, with so many events committed; where that
+// tree is refused, `state`.
+fn carry_out(state: State, next: State, members: usize, committed: u32) -> StateAnswer
     requires { ⌜ next .arcs ≤ mostArcs ⌝ }
     requires { ⌜ members ≡ memberCount (network (treeIn (stateOf next))) ⌝ }
     requires { ⌜ members ≤ mostArcs ⌝ }
     ensures { λ r. ⌜ memberCountOf (r .answer) ≡ memberCountAnswer (treeIn (stateOf next)) ⌝ }
     ensures { λ r. ⌜ stateOf (r .state)
-        ≡ written (treeCheck (treeIn (stateOf next))) (stateOf state) (madeState (treeIn (stateOf next))) ⌝ }
+        ≡ written (treeCheck (treeIn (stateOf next))) (stateOf state)
+        (madeState (treeIn (stateOf next)) committed) ⌝ }
 {
     let m = next.arcs;
     let parents = next.parents;
     let costs = next.costs;
     let marks = next.marks;
-    let made = split_into_state(&parents[0..m], &costs[0..m], &marks[0..m], members);
+    let made = split_into_state(
+        &parents[0..m],
+        &costs[0..m],
+        &marks[0..m],
+        members,
+        committed,
+    );
     let answer = made.answer;
     let MemberCount::Members(_) = answer else {
         return StateAnswer { answer, state };
@@ -73,7 +81,7 @@ fn carry_out(state: State, next: State, members: usize) -> StateAnswer
 }
 
 // The state's tree is accepted and has this number of members. 21, 22, then 17, 18 and 4 on the tree reached.
-fn apply_in_tree(state: State, event: Event, members: usize) -> StateAnswer
+fn apply_in_tree(state: State, event: Event, members: usize, committed: u32) -> StateAnswer
     requires { ⌜ state .arcs ≤ mostArcs ⌝ }
     requires { ⌜ treeCheck (treeIn (stateOf state)) ≡ accepted ⌝ }
     requires { ⌜ members ≡ memberCount (network (treeIn (stateOf state))) ⌝ }
@@ -82,7 +90,7 @@ fn apply_in_tree(state: State, event: Event, members: usize) -> StateAnswer
         (memberCount (network (reached (treeIn (stateOf state)) (eventOf event)))) ⌝ }
     ensures { λ r. ⌜ stateOf (r .state)
         ≡ written (eventCheck (treeIn (stateOf state)) (eventOf event)) (stateOf state)
-        (madeState (reached (treeIn (stateOf state)) (eventOf event))) ⌝ }
+        (madeState (reached (treeIn (stateOf state)) (eventOf event)) committed) ⌝ }
 {
     let m = state.arcs;
     let marks = state.marks;
@@ -96,14 +104,18 @@ fn apply_in_tree(state: State, event: Event, members: usize) -> StateAnswer
         };
     };
     let next = changed(state, vertex, change);
-    carry_out(state, next, members_after(members, change))
+    carry_out(state, next, members_after(members, change), committed)
 }
 
-// The checks on the state's tree, then 21, 22, then 17, 18 and 4 on the tree reached. A refused event gives back the
-// state as it came.
-pub fn apply_event(state: State, event: Event) -> StateAnswer
-    ensures { λ r. ⌜ memberCountOf (r .answer) ≡ applyAnswer (stateOf state) (eventOf event) ⌝ }
-    ensures { λ r. ⌜ stateOf (r .state) ≡ appliedState (stateOf state) (eventOf event) ⌝ }
+// The state made of the tree that the event reaches, with so many events committed. The checks on the state's tree,
+// then 21, 22, then 17, 18 and 4 on the tree reached. A refused event gives back the state as it came.
+pub fn apply_event(state: State, event: Event, committed: u32) -> StateAnswer
+    ensures { λ r. ⌜ memberCountOf (r .answer)
+        ≡ answer (applyCheck (stateOf state) (eventOf event))
+        (memberCount (network (reached (treeIn (stateOf state)) (eventOf event)))) ⌝ }
+    ensures { λ r. ⌜ stateOf (r .state)
+        ≡ written (applyCheck (stateOf state) (eventOf event)) (stateOf state)
+        (madeState (reached (treeIn (stateOf state)) (eventOf event)) committed) ⌝ }
 {
     let m = state.arcs;
     if MOST_ARCS < m {
@@ -125,5 +137,5 @@ pub fn apply_event(state: State, event: Event) -> StateAnswer
             state,
         };
     };
-    apply_in_tree(state, event, members)
+    apply_in_tree(state, event, members, committed)
 }

@@ -13,7 +13,8 @@ ghost use Rattle.answers.specs.States.{noState, madeState};
 ghost use Rattle.engine.specs.Outcomes.{memberCountOf};
 ghost use Rattle.events.specs.Outcomes.{stateOf};
 
-// A tree and its by-arc shares. Entry 0 of `shares` is that of member 0, entry 0 of the other lists that of arc 1.
+// A tree, its by-arc shares, and the number of events committed so far. Entry 0 of `shares` is that of member 0, entry
+// 0 of the other lists that of arc 1.
 #[repr(C)]
 pub struct State {
     pub arcs: usize,
@@ -21,6 +22,7 @@ pub struct State {
     pub costs: [u32; MOST_ARCS],
     pub marks: [u16; MOST_ARCS],
     pub shares: [u64; MOST_ARCS],
+    pub committed: u32,
 }
 
 // What an entry gives back: its answer, and the state beside it.
@@ -39,22 +41,24 @@ fn no_state() -> State
         costs: [0u32; MOST_ARCS],
         marks: [0u16; MOST_ARCS],
         shares: [0u64; MOST_ARCS],
+        committed: 0,
     }
 }
 
-// The state made of a tree with this number of members. The tree's refusals.
+// The state made of a tree with this number of members, with so many events committed. The tree's refusals.
 pub fn split_into_state(
     parents: &[u16],
     costs: &[u32],
     marks: &[u16],
     members: usize,
+    committed: u32,
 ) -> StateAnswer
     requires { ⌜ members ≡ memberCount (network (treeOf (now parents) (now costs) (now marks))) ⌝ }
     requires { ⌜ members ≤ mostArcs ⌝ }
     ensures { λ r. ⌜ memberCountOf (r .answer)
         ≡ memberCountAnswer (treeOf (now (parents .entry)) (now (costs .entry)) (now (marks .entry))) ⌝ }
     ensures { λ r. ⌜ stateOf (r .state)
-        ≡ madeState (treeOf (now (parents .entry)) (now (costs .entry)) (now (marks .entry))) ⌝ }
+        ≡ madeState (treeOf (now (parents .entry)) (now (costs .entry)) (now (marks .entry))) committed ⌝ }
 {
     let mut shares = [0u64; MOST_ARCS];
     let answer = engine::split_by_arc(parents, costs, marks, &mut shares[0..members]);
@@ -72,6 +76,7 @@ pub fn split_into_state(
             costs: pad32(costs),
             marks: pad16(marks),
             shares,
+            committed,
         },
     }
 }
@@ -81,7 +86,7 @@ pub fn make_state(parents: &[u16], costs: &[u32], marks: &[u16]) -> StateAnswer
     ensures { λ r. ⌜ memberCountOf (r .answer)
         ≡ memberCountAnswer (treeOf (now (parents .entry)) (now (costs .entry)) (now (marks .entry))) ⌝ }
     ensures { λ r. ⌜ stateOf (r .state)
-        ≡ madeState (treeOf (now (parents .entry)) (now (costs .entry)) (now (marks .entry))) ⌝ }
+        ≡ madeState (treeOf (now (parents .entry)) (now (costs .entry)) (now (marks .entry))) 0 ⌝ }
 {
     let counted = engine::count_members(parents, costs, marks);
     let MemberCount::Members(members) = counted else {
@@ -90,5 +95,5 @@ pub fn make_state(parents: &[u16], costs: &[u32], marks: &[u16]) -> StateAnswer
             state: no_state(),
         };
     };
-    split_into_state(parents, costs, marks, members)
+    split_into_state(parents, costs, marks, members, 0)
 }

@@ -1,4 +1,4 @@
--- The limits (docs/SPECIFICATION.md, §1, §4, §5).
+-- The limits (docs/SPECIFICATION.md, §1, §4, §5, §11).
 use Prim.Native.Nat.{ℕ}
 
 -- the most arcs of a tree, and so the most members
@@ -16,3 +16,7 @@ mostCost = 1000000000
 -- the greatest amount that a share, of either sign, or a cap can have
 abbrev pub mostShare : ℕ
 mostShare = 2000000000000
+
+-- the most events that are committed on a state
+abbrev pub mostEvents : ℕ
+mostEvents = 1000000

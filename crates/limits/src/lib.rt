@@ -6,3 +6,5 @@ pub const GROUP_BITS: usize = 1024;
 pub const MOST_COST: u32 = 1_000_000_000;
 
 pub const MOST_SHARE: u64 = 2_000_000_000_000;
+
+pub const MOST_EVENTS: u32 = 1_000_000;

@@ -1,6 +1,6 @@
 """What the program prints of each entry.
 
-A case is a tuple: the command, then its fields, each a tree, a list, a number or bytes.
+A case is a tuple: the command, then its fields, each a tree, a state, a list, a number or bytes.
 """
 from rules import (
     MOST_ARCS,
@@ -28,7 +28,8 @@ from rules import (
 from by_arc import by_arc_split
 from job import read_job
 from level import level_split
-from states import ARRIVE, LEAVE, NEW_COST, NO_STATE, Event, State, apply_event, make_state, state_tree
+from states import State, make_state, refusal_of
+from steps import first_state, outcomes
 from writer import job_bytes, job_length, write_job
 
 UNTOUCHED = 9
@@ -154,7 +155,7 @@ def shown(field):
     if isinstance(field, Tree):
         return " ".join(map(shown, field))
     if isinstance(field, State):
-        return " ".join([str(field.arcs), *map(trimmed, field[1:])])
+        return " ".join([str(field.arcs), *map(trimmed, field.lists), str(field.committed)])
     return ",".join(map(str, field)) or "-"
 
 
@@ -210,42 +211,29 @@ def answer_write(*fields):
     return f"{asked}, {line}; others kept"
 
 
-def check_undone(before, event, after):
-    """The opposite of an arrival or a leaving leads back to the state made of the tree before."""
-    if event.change != NEW_COST:
-        back = Event(event.vertex, LEAVE if event.change == ARRIVE else ARRIVE)
-        assert apply_event(after, back) == make_state(state_tree(before)), (before, event)
+def answer_step(done):
+    """The answer of a step, the quote that it gives, and the shares beside it."""
+    quote = f" quote {done.quote}" if done.quote else ""
+    return f"{done.answer}{quote}: {trimmed(done.shares)}"
 
 
-def answer_events(state, events):
-    """The answer of each event and the shares after it, then all of the state."""
-    lines = []
-    for event in events:
-        try:
-            after = apply_event(state, event)
-        except Refusal as refusal:
-            line = str(refusal)
-        else:
-            check_undone(state, event, after)
-            state, line = after, f"members {sum(after.marks)}"
-        lines.append(f"{line}: {trimmed(state.shares)}")
-    lines.append(": ".join([f"arcs {state.arcs}", *map(trimmed, state[1:])]))
-    return "; ".join(lines)
+def answer_steps(state, steps):
+    """The answer of each step and the shares beside it, then all of the state."""
+    found = outcomes(state, steps)
+    if found:
+        state = found[-1].state
+    last = ": ".join([f"arcs {state.arcs}", *map(trimmed, state.lists), str(state.committed)])
+    return "; ".join([*map(answer_step, found), last])
 
 
-def answer_state(tree, events):
-    """The answer of the making, then as of events on the state made, or on the one that is 0 throughout."""
-    try:
-        state = make_state(tree)
-    except Refusal as refusal:
-        state, line = NO_STATE, str(refusal)
-    else:
-        line = f"members {member_count(tree)}"
-    return f"{line}; {answer_events(state, events)}"
+def answer_state(tree, steps):
+    """The answer of the making, then as of steps on the state made, or on the one that is 0 throughout."""
+    line = refusal_of(make_state, tree) or f"members {member_count(tree)}"
+    return f"{line}; {answer_steps(first_state(tree), steps)}"
 
 
 # the commands that print more than an answer and a list
-WHOLE_LINES = {"job": answer_job, "write": answer_write, "state": answer_state, "events": answer_events}
+WHOLE_LINES = {"job": answer_job, "write": answer_write, "state": answer_state, "events": answer_steps}
 
 
 def answer(case):

@@ -1,10 +1,11 @@
-"""The cases of states made of trees, and of events one after another."""
+"""The cases of states made of trees, and of events committed one after another."""
 import random
 
-from rules import MOST_ARCS, MOST_COST, Refusal, Tree, all_marked, dead_end_marks
+from rules import MOST_ARCS, MOST_COST, Tree, all_marked, dead_end_marks
 from marks import SPARE, lists
 from networks import T, T_SPARE, U, W, chain, comb, random_tree, star, thinned
-from states import apply_event, arrive, leave, make_state, new_cost, state_tree
+from states import Quote, arrive, leave, make_state, new_cost, state_tree
+from steps import first_state, in_turn, outcome
 from trees import FAULTY, LARGE
 
 # one arc alone, and T with one member
@@ -17,9 +18,9 @@ SMALL_SPARE = [tree for tree in SPARE if len(tree.parents) < 10]
 AMOUNTS = [0, 1, 8, MOST_COST - 1, MOST_COST, LARGE, 2**31, 2**32 - 1]
 
 
-def made(tree, *events):
-    """The state made of a tree, and events on it."""
-    return "state", tree, list(events)
+def made(tree, *steps):
+    """The state made of a tree, and steps on it; an event stands for its commit."""
+    return "state", tree, in_turn(first_state(tree), steps)
 
 
 def made_states():
@@ -123,11 +124,8 @@ def random_events():
         tree = random_tree(dice, dice.randint(2, 12), most_costs=[3, 9, 9, 100])
         if turn % 2:
             tree = thinned(dice, tree)
-        state, events = make_state(tree), []
+        state, quotes = make_state(tree), []
         for _ in range(100):
-            events.append(random_event(dice, state_tree(state)))
-            try:
-                state = apply_event(state, events[-1])
-            except Refusal:
-                pass
-        yield made(tree, *events)
+            quotes.append(Quote(random_event(dice, state_tree(state)), state.committed))
+            state = outcome(state, quotes[-1]).state
+        yield "state", tree, quotes

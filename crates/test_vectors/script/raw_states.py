@@ -1,4 +1,4 @@
-"""The cases of events on states as handed in: any number of arcs, any entries past them, any shares."""
+"""The cases of events committed on states as handed in: any number of arcs, any entries past them, any shares."""
 import random
 
 from rules import MOST_ARCS
@@ -6,6 +6,7 @@ from entries import answer
 from events import ONE, T_LAST, every_event, made, random_event
 from networks import T, T_SPARE, random_tree, thinned
 from states import arrive, leave, new_cost, state_of
+from steps import in_turn
 from trees import FAULTY, LARGE
 
 GREATEST = 2**64 - 1
@@ -15,9 +16,9 @@ CARRIED_OUT = [leave(3), new_cost(2, 9)]
 REFUSED = [arrive(2), arrive(1), arrive(5), leave(5), new_cost(5, 1), new_cost(3, LARGE)]
 
 
-def handed(state, *events):
-    """A state as it is, and events on it."""
-    return "events", state, list(events)
+def handed(state, *steps):
+    """A state as it is, and steps on it; an event stands for its commit."""
+    return "events", state, in_turn(state, steps)
 
 
 def with_more(tree, parents=(), costs=(), marks=(), shares=()):

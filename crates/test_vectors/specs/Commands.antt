@@ -39,7 +39,7 @@ fieldCount CapSums = 6
 fieldCount Job = 3
 fieldCount Write = 7
 fieldCount State = 5
-fieldCount Events = 7
+fieldCount Events = 8
 fieldCount Unknown = 0
 
 -- c is the command at the name's place among the names, or unknown where the name is none of them

@@ -1,6 +1,6 @@
 // One case: a command, a tree, and for some commands one field or two more; or parents, costs and a length; or a number
 // of members and a list with an entry each; or a job; or the note and the lists of a job and a length; or a state and
-// events.
+// steps.
 use crate::command;
 use crate::command::Command;
 use crate::event_case;

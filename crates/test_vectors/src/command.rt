@@ -74,7 +74,7 @@ pub fn fields(c: Command) -> usize
         Command::Job => 3,
         Command::Write => 7,
         Command::State => 5,
-        Command::Events => 7,
+        Command::Events => 8,
         Command::Unknown => 0,
     }
 }

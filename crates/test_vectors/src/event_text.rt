@@ -1,8 +1,7 @@
 // Reading events: a plus and a vertex for arrive, a minus and a vertex for leave, a vertex, "=" and an amount for a new
-// cost. A list of them has a comma between two, and "-" for no events.
+// cost.
 use events::Change;
 use events::Event;
-use test_lines::list;
 use test_lines::number;
 
 // An event; one at vertex 0 where the bytes are none.
@@ -57,17 +56,4 @@ pub fn read(s: &[u8]) -> EventRead {
         return at_vertex(&s[1..], Change::Leave);
     }
     new_cost(s)
-}
-
-// Whether every entry of a list is an event.
-pub fn all_readable(s: &[u8]) -> bool {
-    let mut at = list::first_entry(s);
-    while at <= s.len() {
-        let end = bytes::scan::find(s, at, s.len(), b',');
-        if !read(&s[at..end]).readable {
-            return false;
-        }
-        at = end + 1;
-    }
-    true
 }

@@ -2,11 +2,12 @@
 mod case;
 mod command;
 mod event_case;
-mod event_steps;
 mod event_text;
 mod job_case;
 mod print;
 mod state_case;
+mod step_text;
+mod steps;
 mod write_case;
 
 use libc::STDIN_FILENO;

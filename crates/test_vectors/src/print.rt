@@ -9,6 +9,10 @@ use engine::NeedsFound;
 use engine::Refusal;
 use engine::Searched;
 use engine::TotalFound;
+use events::Change;
+use events::Event;
+use events::Quote;
+use events::QuoteGiven;
 use events::State;
 use job::JobLength;
 use test_lines::print::labelled;
@@ -118,6 +122,36 @@ pub fn job_length(label: &[u8], j: JobLength) {
     }
 }
 
+// An event, as it is read.
+fn event(e: Event) {
+    let vertex = e.vertex as u64;
+    let change = e.change;
+    match change {
+        Change::Arrive => labelled(b"+", vertex),
+        Change::Leave => labelled(b"-", vertex),
+        Change::NewCost(amount) => {
+            labelled(b"", vertex);
+            labelled(b"=", amount as u64);
+        }
+    }
+}
+
+fn quoted(q: Quote) {
+    event(q.event);
+    labelled(b"@", q.committed as u64);
+}
+
+pub fn quote_given(g: QuoteGiven) {
+    match g {
+        QuoteGiven::Quoted { members, quote } => {
+            labelled(b"members ", members as u64);
+            text(b" quote ");
+            quoted(quote);
+        }
+        QuoteGiven::Refused(r) => refusal(r),
+    }
+}
+
 // All of a state: the zeros at the end of a list are left out, so that every other entry is printed.
 pub fn state(s: State) {
     let parents = s.parents;
@@ -129,6 +163,7 @@ pub fn state(s: State) {
     trimmed32(&costs);
     trimmed16(&marks);
     trimmed(&shares);
+    labelled(b": ", s.committed as u64);
 }
 
 // How many entries of a list are printed, where the first n are to be.

@@ -1,11 +1,11 @@
-// The cases of a state made of a tree, with events on it.
-use crate::event_steps;
-use crate::event_text;
+// The cases of a state made of a tree, with steps on it.
 use crate::print;
+use crate::step_text;
+use crate::steps;
 use test_lines::print::text;
 
 pub fn run(parents: &[u16], costs: &[u32], marks: &[u16], s: &[u8]) {
-    if !event_text::all_readable(s) {
+    if !step_text::all_readable(s) {
         return print::bad_case();
     }
     let made = events::make_state(parents, costs, marks);
@@ -13,5 +13,5 @@ pub fn run(parents: &[u16], costs: &[u32], marks: &[u16], s: &[u8]) {
     let state = made.state;
     print::member_count(answer);
     text(b"; ");
-    event_steps::run(state, s);
+    steps::run(state, s);
 }

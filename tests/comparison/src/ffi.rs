@@ -83,13 +83,14 @@ pub struct ZilqodurState {
     pub costs: [u32; ARCS],
     pub marks: [u16; ARCS],
     pub shares: [u64; ARCS],
+    pub committed: u32,
 }
 
-const _: () = assert!(size_of::<ZilqodurState>() == 16_384);
+const _: () = assert!(size_of::<ZilqodurState>() == 16_392);
 
 /// The kind is 0 for arrive and 1 for leave; every other number is a new cost.
 #[repr(C)]
-#[derive(Clone, Copy, Debug, PartialEq)]
+#[derive(Clone, Copy, Debug, Default, PartialEq)]
 pub struct ZilqodurEvent {
     pub vertex: usize,
     pub kind: u32,
@@ -104,6 +105,25 @@ pub struct ZilqodurStateAnswer {
     pub members: usize,
     pub state: ZilqodurState,
 }
+
+#[repr(C)]
+#[derive(Clone, Copy, Debug, Default, PartialEq)]
+pub struct ZilqodurQuote {
+    pub event: ZilqodurEvent,
+    pub committed: u32,
+}
+
+#[repr(C)]
+#[derive(Clone, Copy, Debug, PartialEq)]
+pub struct ZilqodurQuoteAnswer {
+    pub refusal: u32,
+    pub place: usize,
+    pub members: usize,
+    pub quote: ZilqodurQuote,
+    pub shares: [u64; ARCS],
+}
+
+const _: () = assert!(size_of::<ZilqodurQuoteAnswer>() == 8_232);
 
 #[repr(C)]
 #[derive(Clone, Copy, Debug, Default, PartialEq)]
@@ -255,7 +275,8 @@ unsafe extern "C" {
         marks: *const u16,
         marks_count: usize,
     ) -> ZilqodurStateAnswer;
-    fn zilqodur_apply_event(state: ZilqodurState, event: ZilqodurEvent) -> ZilqodurStateAnswer;
+    fn zilqodur_ask(state: ZilqodurState, event: ZilqodurEvent) -> ZilqodurQuoteAnswer;
+    fn zilqodur_commit(state: ZilqodurState, quote: ZilqodurQuote) -> ZilqodurStateAnswer;
     fn zilqodur_read_job(
         bytes: *const u8,
         bytes_count: usize,
@@ -523,8 +544,12 @@ pub fn make_state(parents: &[u16], costs: &[u32], marks: &[u16]) -> ZilqodurStat
     }
 }
 
-pub fn apply_event(state: &ZilqodurState, event: ZilqodurEvent) -> ZilqodurStateAnswer {
-    unsafe { zilqodur_apply_event(*state, event) }
+pub fn ask(state: &ZilqodurState, event: ZilqodurEvent) -> ZilqodurQuoteAnswer {
+    unsafe { zilqodur_ask(*state, event) }
+}
+
+pub fn commit(state: &ZilqodurState, quote: ZilqodurQuote) -> ZilqodurStateAnswer {
+    unsafe { zilqodur_commit(*state, quote) }
 }
 
 pub fn read_job(

@@ -1,10 +1,10 @@
-//! Pseudo-random events, and states that no function made.
+//! Pseudo-random events and numbers of events, and states that no function made.
 
 use crate::compare::Network;
 use crate::ffi::ZilqodurEvent;
 use crate::reference::{dead_ends, ARCS, COST};
 use crate::rng::Rng;
-use crate::state::State;
+use crate::state::{State, EVENTS};
 
 /// A vertex whose entry is the wanted one, or any where there is none.
 fn vertex_with<T: PartialEq>(rng: &mut Rng, list: &[T], wanted: T) -> usize {
@@ -58,6 +58,22 @@ pub fn event(rng: &mut Rng, state: &State) -> ZilqodurEvent {
     }
 }
 
+/// A number of events committed, most often one at which more may be.
+pub fn number(rng: &mut Rng) -> u32 {
+    match rng.below(8) {
+        0 => rng.pick(&[EVENTS, EVENTS + 1, 1 << 24, u32::MAX]),
+        1 => EVENTS - 1 - rng.up_to(3) as u32,
+        2 => rng.up_to(u64::from(EVENTS)) as u32,
+        _ => rng.up_to(1) as u32,
+    }
+}
+
+/// A number below or above the given one.
+pub fn other_number(rng: &mut Rng, number: u32) -> u32 {
+    let more = [1, 2, 256, 65_536, 1 << 31, u32::MAX - 1, u32::MAX];
+    number.wrapping_add(rng.pick(&more))
+}
+
 /// The list up to the most arcs, with anything past its end.
 fn filled<T: Copy>(rng: &mut Rng, list: &[T], entry: impl Fn(u64) -> T) -> Vec<T> {
     let mut list = list[..list.len().min(ARCS)].to_vec();
@@ -76,6 +92,7 @@ pub fn raw(rng: &mut Rng, network: &Network) -> State {
         costs: filled(rng, &network.costs, |n| (n % cost) as u32),
         marks: filled(rng, &network.marks, |n| (n % mark) as u16),
         shares: filled(rng, &[], |n| n),
+        committed: number(rng),
     }
 }
 

@@ -1,18 +1,19 @@
 //! The cases that a run of all rounds is to meet: every refusal of every
 //! entry, faults that stand in one tree or one job, trees with spare plots,
 //! leftover units that tallies decide over, totals of every kind with and
-//! without a group, and events of every kind.
+//! without a group, events of every kind, and quotes of every number.
 
 use crate::ffi::ZilqodurEvent;
 use crate::job::Fault;
 use crate::reference::{Refusal, Tree, ARCS, COST};
+use crate::state::EVENTS;
 use crate::tally::Tally;
 
 const TREE: [u32; 7] = [1, 2, 3, 4, 16, 17, 18];
 
 /// The refusals of each entry, with whether it has those of a tree too.
 #[rustfmt::skip]
-const REFUSALS: [(&str, bool, &[u32]); 19] = [
+const REFUSALS: [(&str, bool, &[u32]); 20] = [
     ("check_tree", true, &[]),
     ("check_caps", false, &[6, 7]),
     ("check_proposal", false, &[6, 7]),
@@ -27,7 +28,8 @@ const REFUSALS: [(&str, bool, &[u32]); 19] = [
     ("split_level", true, &[6, 7, 8, 9]),
     ("split_by_arc", true, &[8]),
     ("make_state", true, &[]),
-    ("apply_event", false, &[1, 3, 4, 16, 17, 18, 21, 22]),
+    ("ask", false, &[1, 3, 4, 16, 17, 18, 21, 22]),
+    ("commit", false, &[23, 24, 1, 3, 4, 16, 17, 18, 21, 22]),
     ("read_job", false, &[10, 11, 12, 13, 14, 1, 3, 4, 15, 7]),
     ("job_length", false, &[1, 2, 3, 4, 6, 7, 19]),
     ("write_job", false, &[1, 2, 3, 4, 6, 7, 19, 20]),
@@ -53,8 +55,9 @@ const WRITER: [(&str, u32); 10] = [
     ("proposals", 6), ("proposals", 7), ("note", 19), ("output", 20),
 ];
 
-/// What a state's own tree and the tree that an event reaches are refused by.
+/// What a state's own tree, an event and the tree that it reaches are refused by.
 const OF_STATE: [u32; 6] = [1, 3, 4, 16, 17, 18];
+const OF_EVENT: [u32; 2] = [21, 22];
 const OF_REACHED: [u32; 3] = [17, 18, 4];
 
 /// The arcs of a run that is called long.
@@ -79,6 +82,12 @@ const UNPAID: &str = "a new cost that changes no share";
 const OTHER_KIND: &str = "a kind of event without a name";
 const AT_LIMIT: &str = "an event at the last of all vertices";
 const TWICE_OUTSIDE: &str = "21 on an event whose amount is above the limit";
+
+const BEHIND: &str = "a quote whose number is below the state's";
+const AHEAD: &str = "a quote whose number is above the state's";
+const LAST_EVENT: &str = "the last event that is carried out";
+const FULL: &str = "24 at the limit";
+const GREATEST: &str = "24 at the greatest number";
 
 /// What judges a proposal.
 pub const ARCHIVE: &str = "the archive";
@@ -151,6 +160,36 @@ pub fn note_event_faults(tally: &mut Tally, event: &ZilqodurEvent, faults: &[Fau
         }
         _ => (),
     }
+}
+
+fn quote_meeting(first: u32, second: (&str, u32)) -> String {
+    format!("{first} of a quote before {second:?}")
+}
+
+/// Notes the first two faults of a quote, and the numbers of the state and of
+/// the quote.
+pub fn note_quote(tally: &mut Tally, committed: u32, quoted: u32, faults: &[Fault]) {
+    if let [("quote", a), (b_of, b), ..] = faults {
+        let meeting = quote_meeting(a.number, (b_of, b.number));
+        tally.met.insert(meeting);
+    }
+    let number = faults.first().map_or(0, |(_, fault)| fault.number);
+    note(tally, BEHIND, number == 23 && quoted < committed);
+    note(tally, AHEAD, number == 23 && quoted > committed);
+    note(tally, LAST_EVENT, number == 0 && committed == EVENTS - 1);
+    note(tally, FULL, number == 24 && committed == EVENTS);
+    note(tally, GREATEST, number == 24 && committed == u32::MAX);
+}
+
+/// All that may follow 23 or 24 as the second fault of a quote, and 24 after 23.
+fn quote_meetings() -> Vec<String> {
+    let state = OF_STATE.map(|number| ("state", number));
+    let event = OF_EVENT.map(|number| ("event", number));
+    let reached = OF_REACHED.map(|number| ("tree reached", number));
+    let second: Vec<_> = state.into_iter().chain(event).chain(reached).collect();
+    let with = |first| second.iter().map(move |&of| quote_meeting(first, of));
+    let neighbours = quote_meeting(23, ("quote", 24));
+    with(23).chain(with(24)).chain([neighbours]).collect()
 }
 
 /// Notes an event that is carried out, and whether it changes the shares.
@@ -271,13 +310,15 @@ pub fn unmet(tally: &Tally) -> Vec<String> {
     let proposals = [ARCHIVE, DEFINITION].into_iter().flat_map(by);
     let reports = AUDITS.map(reported);
     let with = |second| OF_STATE.map(|first| state_meeting(first, second));
-    let states = [21, 22].into_iter().flat_map(with);
+    let states = OF_EVENT.into_iter().flat_map(with);
     let states = states.chain(OF_REACHED.map(reached_fault));
     let events = [ARRIVED, LEFT, DEARER, UNPAID, OTHER_KIND, AT_LIMIT];
-    let events = events.into_iter().chain([TWICE_OUTSIDE]).map(String::from);
+    let events = events.into_iter().chain([TWICE_OUTSIDE]);
+    let quotes = [BEHIND, AHEAD, LAST_EVENT, FULL, GREATEST];
+    let events = events.chain(quotes).map(String::from);
     let rare = meetings.chain(apart).chain(jobs).chain(trees);
     let rare = rare.chain(leftovers).chain(proposals).chain(reports);
-    let rare = rare.chain(states).chain(events);
+    let rare = rare.chain(states).chain(events).chain(quote_meetings());
     unmet.extend(rare.filter(|case| !tally.met.contains(case)));
     unmet
 }

@@ -1,9 +1,13 @@
-//! States and events (specification, §11).
+//! States, events and quotes (specification, §11).
 
 use crate::job::Fault;
 use crate::reference::{refusal, refuse, tree_faults, Answer, Refusal, Tree, ARCS};
 
-/// A tree and its shares, each list with one entry for each of the most arcs.
+/// At this number of events committed no quote is carried out.
+pub const EVENTS: u32 = 1_000_000;
+
+/// A tree, its shares and the number of events committed, each list with one
+/// entry for each of the most arcs.
 #[derive(Clone, PartialEq)]
 pub struct State {
     pub arcs: usize,
@@ -11,6 +15,7 @@ pub struct State {
     pub costs: Vec<u32>,
     pub marks: Vec<u16>,
     pub shares: Vec<u64>,
+    pub committed: u32,
 }
 
 #[derive(Clone, Copy)]
@@ -24,6 +29,12 @@ pub enum Change {
 pub struct Event {
     pub vertex: usize,
     pub change: Change,
+}
+
+#[derive(Clone, Copy)]
+pub struct Quote {
+    pub event: Event,
+    pub committed: u32,
 }
 
 /// The list with 0 past its end.
@@ -41,6 +52,7 @@ impl State {
             costs: padded(costs),
             marks: padded(marks),
             shares: padded(shares),
+            committed: 0,
         }
     }
 
@@ -103,14 +115,46 @@ impl State {
         }
     }
 
-    /// The number of members after the event and the next state, given the faults.
-    pub fn apply(&self, event: Event, faults: &[Fault]) -> (Answer<usize>, State) {
+    /// 23 and 24, then the faults of the quote's event.
+    pub fn quote_faults(&self, quote: Quote, of_event: &[Fault]) -> Vec<Fault> {
+        let other = quote.committed != self.committed;
+        let full = self.committed >= EVENTS;
+        let numbers = [(other, 23), (full, 24)].into_iter();
+        let numbers = numbers.filter(|&(holds, _)| holds);
+        let numbers = numbers.map(|(_, number)| ("quote", refusal(number, 0)));
+        numbers.chain(of_event.iter().copied()).collect()
+    }
+
+    /// The number of members after the event and the state made of the tree
+    /// reached, where there is no fault.
+    fn reach(&self, event: Event, faults: &[Fault]) -> Answer<(usize, State)> {
         if let Some(&(_, fault)) = faults.first() {
-            return (Err(fault), self.clone());
+            return Err(fault);
         }
         let next = self.changed(event);
         let (parents, costs, marks) = next.lists();
-        make(parents, costs, marks)
+        let (found, made) = make(parents, costs, marks);
+        found.map(|members| (members, made))
+    }
+
+    /// The number of members after the event, its quote and the shares, given the
+    /// faults of the event.
+    pub fn ask(&self, event: Event, faults: &[Fault]) -> Answer<(usize, Quote, Vec<u64>)> {
+        let (members, made) = self.reach(event, faults)?;
+        let committed = self.committed;
+        Ok((members, Quote { event, committed }, made.shares))
+    }
+
+    /// The number of members after the quote's event and the next state, given
+    /// the faults of the quote.
+    pub fn commit(&self, quote: Quote, faults: &[Fault]) -> (Answer<usize>, State) {
+        match self.reach(quote.event, faults) {
+            Ok((members, mut next)) => {
+                next.committed = self.committed + 1;
+                (Ok(members), next)
+            }
+            Err(fault) => (Err(fault), self.clone()),
+        }
     }
 }
 

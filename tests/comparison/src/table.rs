@@ -4,11 +4,11 @@
 use crate::compare::Network;
 use crate::compare_job;
 use crate::compare_state;
-use crate::ffi::ZilqodurEvent;
+use crate::ffi::{ZilqodurEvent, ZilqodurQuote};
 use crate::job::{self, Job};
 use crate::reference::{self, refuse, Answer, Refusal, AMOUNT};
 use crate::report;
-use crate::state::{self, State};
+use crate::state::{self, Quote, State, EVENTS};
 use crate::tally::Tally;
 use std::fmt::Debug;
 
@@ -101,24 +101,45 @@ fn made(tally: &mut Tally, n: &Network, expected: &[u64]) -> State {
     compare_state::make_state(tally, n)
 }
 
-/// The shares after an event of this vertex, kind and amount; answers the state.
-fn event(
-    tally: &mut Tally,
-    state: &State,
-    event: (usize, u32, u32),
-    expected: Answer<&[u64]>,
-) -> State {
-    let (vertex, kind, amount) = event;
-    let event = ZilqodurEvent {
+/// An event of this vertex, kind and amount.
+type Named = (usize, u32, u32);
+
+fn to_event((vertex, kind, amount): Named) -> ZilqodurEvent {
+    ZilqodurEvent {
         vertex,
         kind,
         amount,
+    }
+}
+
+/// The shares after a quote of this number; answers the state.
+fn quote(
+    tally: &mut Tally,
+    state: &State,
+    event: Named,
+    committed: u32,
+    expected: Answer<&[u64]>,
+) -> State {
+    let event = to_event(event);
+    let read = Quote {
+        event: compare_state::from_c(event),
+        committed,
     };
-    let read = compare_state::from_c(event);
-    let (found, next) = state.apply(read, &state.faults(read));
+    let faults = state.quote_faults(read, &state.faults(read.event));
+    let (found, next) = state.commit(read, &faults);
     let shares = found.map(|members| next.shares[..members].to_vec());
     named(tally, shares, expected.map(<[u64]>::to_vec));
-    compare_state::apply_event(tally, state, event).0
+    compare_state::commit(tally, state, ZilqodurQuote { event, committed }).1
+}
+
+/// The shares that are asked for, and those after the quote; answers the state.
+fn event(tally: &mut Tally, state: &State, event: Named, expected: Answer<&[u64]>) -> State {
+    let read = compare_state::from_c(to_event(event));
+    let found = state.ask(read, &state.faults(read));
+    let shares = found.map(|(members, _, shares)| shares[..members].to_vec());
+    named(tally, shares, expected.map(<[u64]>::to_vec));
+    compare_state::ask(tally, state, to_event(event));
+    quote(tally, state, event, state.committed, expected)
 }
 
 fn writing(tally: &mut Tally, job: &Job, room: usize, expected: Answer<usize>) {
@@ -249,6 +270,23 @@ fn events(tally: &mut Tally, t: &Network) {
     event(tally, &one, (4, 1, 0), refuse(18, 0));
     event(tally, &whole, (1, 2, 13), Ok(&[8, 11, 4]));
     event(tally, &whole, (1, u32::MAX, 13), Ok(&[8, 11, 4]));
+    quotes(tally, &whole, &spare);
+}
+
+/// T's state, and the one after the member at vertex 3 has left, with quotes of
+/// other numbers and with as many events committed as may be.
+fn quotes(tally: &mut Tally, whole: &State, spare: &State) {
+    let leave = (3, 1, 0);
+    quote(tally, spare, leave, 0, refuse(23, 0));
+    quote(tally, whole, leave, 1, refuse(23, 0));
+    quote(tally, whole, leave, u32::MAX, refuse(23, 0));
+    let mut many = whole.clone();
+    many.committed = EVENTS - 1;
+    event(tally, &many, leave, Ok(&[7, 4]));
+    many.committed = EVENTS;
+    quote(tally, &many, leave, EVENTS, refuse(24, 0));
+    quote(tally, &many, (0, 1, 0), EVENTS, refuse(24, 0));
+    quote(tally, &many, leave, EVENTS - 1, refuse(23, 0));
 }
 
 /// T with no note, caps 100 and the proposal 8 4 4.

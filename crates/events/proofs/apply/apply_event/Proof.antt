@@ -6,7 +6,6 @@ use mathlib.Core.Bool.{false}
 use Rattle.limits.specs.Limits.{mostArcs}
 use Rattle.answers.specs.Members.{memberCountAnswer}
 use Rattle.answers.specs.States.{State, treeIn, stateCheck}
-use Rattle.answers.specs.Events.{applyAnswer, appliedState}
 use Rattle.engine.specs.Outcomes.{memberCountOf}
 use Rattle.events.specs.Outcomes.{stateOf}
 use Rattle.events.proofs.Arrays.{reaches, part-tree}
@@ -19,7 +18,7 @@ held s = stateOf (s .args .state)
 
 -- more arcs than entries
 returns : tie.Need-returns
-unfolding applyAnswer appliedState stateCheck
+unfolding stateCheck
 returns c =
     let many = lt-ltb mostArcs (held (c .before) .arcs) (c .if1 .taken) in
     (rw many, rw many)
@@ -54,7 +53,7 @@ answers : (c : tie.After-count-members)
 answers c = c .count-members .ensures ∙ ap memberCountAnswer (part-tree (state c))
 
 returns-2 : tie.Need-returns-2
-unfolding memberCountAnswer applyAnswer appliedState stateCheck
+unfolding memberCountAnswer stateCheck
 returns-2 c =
     let call = c .before .before in
     let away = not-counted (treeIn (state call)) (answers call) (c .enum-told .given .1) in
@@ -67,7 +66,7 @@ apply-in-tree-requires c κs =
     (within call .if1 .left, (is .0, is .1))
 
 returns-3 : tie.Need-returns-3
-unfolding applyAnswer appliedState stateCheck
+unfolding stateCheck
 returns-3 c =
     let call = c .before .before .before .before in
     let ok = counted (treeIn (state call)) (answers call) (c .before .before .counted .given .1) .0 in

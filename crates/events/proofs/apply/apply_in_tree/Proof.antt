@@ -109,13 +109,14 @@ returns-2 c =
     let start = start-told told in
     let here = tree-reached (c .before .before) in
     let check = event-check (tree start) (event start) (start .pre .1 .0) (fits told) in
-    let state = held start in (
+    let state = held start in
+    let n = start .args .committed in (
       c .carry-out .ensures .0
           ∙ ap memberCountAnswer here
           ∙ event-answer (tree start) (event start) (start .pre .1 .0) (fits told),
       c .carry-out .ensures .1
-          ∙ ap (λ (r : Tree). written (treeCheck r) state (madeState r)) here
-          ∙ ap (λ (x : Check). written x state (madeState (reached (tree start) (event start)))) (sym check),
+          ∙ ap (λ (r : Tree). written (treeCheck r) state (madeState r n)) here
+          ∙ ap (λ (x : Check). written x state (madeState (reached (tree start) (event start)) n)) (sym check),
     )
 
 pub apply-in-tree-spec : {M : Type 1} → statement M

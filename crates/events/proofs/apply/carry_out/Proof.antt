@@ -49,7 +49,8 @@ returns c =
 returns-2 : tie.Need-returns-2
 returns-2 c =
     let call = c .before .before .before in
-    let made = call .split-into-state .ensures .1 ∙ ap madeState (part-tree (next (start call))) in
+    let n = start call .args .committed in
+    let made = call .split-into-state .ensures .1 ∙ ap (λ (t : Tree). madeState t n) (part-tree (next (start call))) in
     (answers call, rw (counted (treeIn (next (start call))) (answers call) (c .before .enum-told .given .1) .0) made)
 
 pub carry-out-spec : {M : Type 1} → statement M

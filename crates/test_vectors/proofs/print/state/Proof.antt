@@ -35,4 +35,7 @@ state-spec =
     trimmed16-requires-2
     (λ c. search needs)
     (λ c κs. search needs)
+    (λ c. search needs)
+    (λ c. search needs)
+    (λ c κs. search needs)
     (λ c. search needs))
