@@ -32,8 +32,9 @@
  *   - no two lists of one call overlap;
  *   - nobody else writes to the lists during the call;
  *   - 240,000 bytes of the stack are free for zilqodur_commit, zilqodur_ask and zilqodur_make_state, which take 214,000, 197,000 and
- *     140,000 of them, and 100,000 for the others, of which zilqodur_report takes 93,000, every other function at most 40,000. A state is
- *     16,392 bytes, wherever it is handed over or comes back; those bytes are counted in.
+ *     140,000 of them, 150,000 for zilqodur_report, which takes 140,000, and 100,000 for the others, of which zilqodur_split_level takes
+ *     87,000, every other function at most 40,000. A state is 16,392 bytes, wherever it is handed over or comes back; those bytes are
+ *     counted in.
  *
  * No function keeps anything between calls, allocates memory or does input or output; calls from several threads are safe. Link with
  * target/staticlib/libcapi.a (x86-64 Linux). */

@@ -19,7 +19,8 @@
 #define COMMIT 214000
 #define ASK 197000
 #define MAKE 140000
-#define REPORT 93000
+#define REPORT 140000
+#define LEVEL 87000
 #define OTHER 40000
 
 /* The bytes below the stack, which may not be touched, are more than a frame has, so that none reaches past them. */
@@ -135,7 +136,7 @@ static const struct {
     {"zilqodur_check_total", check_total, OTHER},
     {"zilqodur_find_group", find_group, OTHER},
     {"zilqodur_list_cap_sums", list_cap_sums, OTHER},
-    {"zilqodur_split_level", split_level, OTHER},
+    {"zilqodur_split_level", split_level, LEVEL},
     {"zilqodur_split_by_arc", split_by_arc, OTHER},
     {"zilqodur_make_state", make_state, MAKE},
     {"zilqodur_ask", ask, ASK},

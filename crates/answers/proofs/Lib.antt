@@ -5,6 +5,7 @@ pub mod Laws
 pub mod AuditLaws
 pub mod CoreLaws
 pub mod LevelLaws
+pub mod LevelKeys
 pub mod RunningSums
 pub mod CapSumsLaws
 pub mod ShortArc

@@ -15,6 +15,7 @@ pub mod Laws
 pub mod AuditLaws
 pub mod CoreLaws
 pub mod LevelLaws
+pub mod LevelKeys
 pub mod CapSumsLaws
 pub mod ByArcLaws
 pub mod EventLaws

@@ -6,16 +6,18 @@
 --   pick-yes, pick-no               a pick whose test is known
 --   pick-add, pick-parts            a pick of a sum; a test and its negation
 --   pick-and, pick-either           a pick by two tests
---   pick-same, pick-mono, pick-le   equal and ordered picks
-use Prim.Native.Nat.{ℕ, _+_, _≤_, _<_, zero-le}
+--   pick-same, pick-ordered         amounts equal, or ordered, where the test holds
+--   pick-mono, pick-le              ordered picks
+--   smaller-is                      the smaller of two numbers
+use Prim.Native.Nat.{ℕ, _+_, _-_, _≤_, _<_, zero-le}
 use mathlib.Core.Path.{_≡_, refl, sym, _∙_}
 use mathlib.Core.Bool.{Bool, true, false, not, _&&_, _||_, true≢false, false≢true}
 use mathlib.Core.Logic.{_⊎_, inl, inr, ⊎-elim}
 use native.Mathlib.Nat.{le-refl}
 use native.Mathlib.Omega.{arith}
-use borrow.Author.Tests.{eqb-true, eq-eqb}
-use lib.Dec.{eqb}
-use Rattle.basics.specs.Sum.{pick}
+use borrow.Author.Tests.{eqb-true, eq-eqb, ltb-true, ltb-false}
+use lib.Dec.{eqb, ltb}
+use Rattle.basics.specs.Sum.{pick, smaller}
 
 pub both : (b : Bool) → (b ≡ true) ⊎ (b ≡ false)
 both true = inl refl
@@ -114,9 +116,13 @@ pub pick-pos : (b : Bool) (x : ℕ) → 0 < pick b x → (b ≡ true) × (0 < x)
 pick-pos true x h = (refl, h)
 pick-pos false x h = absurd (omega arith)
 
+-- amounts ordered where the test holds
+pub pick-ordered : (b : Bool) {x y : ℕ} → (b ≡ true → x ≤ y) → pick b x ≤ pick b y
+pick-ordered true h = h refl
+pick-ordered false h = le-refl 0
+
 pub pick-both-le : (b : Bool) {x y : ℕ} → x ≤ y → pick b x ≤ pick b y
-pick-both-le true h = h
-pick-both-le false h = le-refl 0
+pick-both-le b h = pick-ordered b (λ t. h)
 
 pub pick-mono : (a b : Bool) (x : ℕ) → (a ≡ true → b ≡ true) → pick a x ≤ pick b x
 pick-mono true b x f = rw (f refl) (le-refl x)
@@ -130,3 +136,11 @@ pick-two a true c d x bc bd acd = rw (bc refl, bd refl) (omega (arith, pick-le a
 pick-two true false c d x bc bd acd =
     ⊎-elim (λ (e : c ≡ true). rw e (omega arith)) (λ (e : d ≡ true). rw e (omega arith)) (acd refl)
 pick-two false false c d x bc bd acd = omega arith
+
+-- the smaller of two numbers as a difference
+pub smaller-is : (a b : ℕ) → smaller a b ≡ a - (a - b)
+smaller-is a b =
+    ⊎-elim
+    (λ (e : ltb a b ≡ true). rw e (omega (arith, ltb-true a b e)))
+    (λ (e : ltb a b ≡ false). rw e (omega (arith, ltb-false a b e)))
+    (both (ltb a b))

@@ -4,3 +4,4 @@ pub mod Sizes
 pub mod Lists
 pub mod Integers
 pub mod Filling
+pub mod Totals

@@ -4,15 +4,15 @@
 --   sum-add, sum-times, sum-pick      of a sum, with a factor, under one test
 --   sum-swap                          two sums exchanged
 --   sum-at, term-le                   the one term that a test leaves; a term is at most the sum
---   sum-but-one                       two sums whose terms are the same but one
+--   sum-but-one, sum-gap              two sums whose terms are the same but one; two that are ordered by points
 --   sum-parts, sum-longer, sum-bound  by a test and its negation; a longer range; a bound
 --   some-of, some-is                  `some` from a witness, and a witness `Some` from it
 --   sum-pos, sum-more-some            a term that makes a sum positive, or greater than another
 --   sum₀-is                           a sum from 0 as one from 1; its laws sum₀-add and so on come from there
 --   sum₀-first                        its first term, then the others
-use Prim.Native.Nat.{ℕ, zero, suc, pred, _+_, _*_, _≤_, _<_, zero-le}
+use Prim.Native.Nat.{ℕ, zero, suc, pred, _+_, _*_, _-_, _≤_, _<_, zero-le}
 use mathlib.Core.Path.{_≡_, refl, sym, ap, ap₂, _∙_}
-use mathlib.Core.Bool.{Bool, true, false, not, _||_, false≢true}
+use mathlib.Core.Bool.{Bool, true, false, not, false≢true}
 use mathlib.Core.Logic.{⊎-elim}
 use native.Mathlib.Nat.{le-refl, mul-zero, mul-one, suc-mul}
 use native.Mathlib.Decide.{decLe, decLt, ℕ-discrete}
@@ -118,6 +118,16 @@ pub term-le : (m k : ℕ) (f : ℕ → ℕ) → In m k → f k ≤ sum m f
 term-le zero k f i = absurd (omega arith)
 term-le (suc m) k f i = in-cases m k i (λ j. omega (arith, term-le m k f j)) (λ e. omega (arith, ap f e))
 
+-- two sums that are ordered by points are as far apart as any two of their terms
+pub sum-gap : (m k : ℕ) (f g : ℕ → ℕ) → ((u : ℕ) → In m u → f u ≤ g u) → In m k → sum m f + (g k - f k) ≤ sum m g
+sum-gap m k f g le i =
+    omega (
+      arith,
+      term-le m k (λ u. g u - f u) i,
+      sum-add m f (λ u. g u - f u),
+      sum-cong m {f = g} {g = λ u. f u + (g u - f u)} (λ u j. omega (arith, le u j)),
+    )
+
 pub sum-bound : (m b : ℕ) {f : ℕ → ℕ} → ((k : ℕ) → In m k → f k ≤ b) → sum m f ≤ m * b
 sum-bound zero b h = zero-le
 sum-bound (suc m) b {f} h =
@@ -157,10 +167,6 @@ some-is (suc m) f e =
     (λ (h : some m f ≡ true). some-more m (some-is m f h))
     (λ (h : f (suc m) ≡ true). record { which = suc m; within = in-last m; passes = h })
     (or-cases (some m f) (f (suc m)) e)
-
-pub some-cong : (m : ℕ) {f g : ℕ → Bool} → ((k : ℕ) → In m k → f k ≡ g k) → some m f ≡ some m g
-some-cong zero h = refl
-some-cong (suc m) h = ap₂ (λ (a b : Bool). a || b) (some-cong m (λ k i. h k (in-more i))) (h (suc m) (in-last m))
 
 -- a sum above 0 has a term above 0
 pub sum-pos : (m : ℕ) (f : ℕ → ℕ) → 0 < sum m f → Some m (λ k. ltb 0 (f k))

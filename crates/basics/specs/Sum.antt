@@ -42,6 +42,11 @@ unfoldable pub entries : {A : Type 0} → ℕ → (ℕ → A) → List A
 entries zero f = []
 entries (suc n) f = entries n f ++ (f n ∷ [])
 
+-- the sum of f over a list
+unfoldable pub total : (ℕ → ℕ) → List ℕ → ℕ
+total f [] = 0
+total f (u ∷ us) = f u + total f us
+
 -- the smaller of two numbers
 abbrev pub smaller : ℕ → ℕ → ℕ
 smaller a b = cond (ltb a b) a b

@@ -8,15 +8,15 @@ use native.Mathlib.Decide.{decLt}
 use native.Mathlib.Omega.{arith}
 use lib.ListN.{length, getD, take, drop, length-take, length-drop, length-append, List·getD-append}
 use lib.Seq.{getD-take, getD-drop, getD-append-add}
-use Rattle.basics.specs.Sum.{pick}
+use Rattle.basics.specs.Sum.{pick, total}
 use Rattle.basics.proofs.Bools.{not-so, pick-yes}
 use Rattle.basics.proofs.Sums.{sum₀-cong}
 use Rattle.game.specs.Network.{Network, memberCount}
 use Rattle.game.specs.Tree.{ofArc}
 use Rattle.game.specs.Core.{users}
 use Rattle.game.proofs.Keys.{keyOf}
-use Rattle.users.specs.Users.{total, LaidOut}
-use Rattle.users.proofs.Listed.{total-has, total-parts}
+use Rattle.basics.proofs.Totals.{total-has, total-parts}
+use Rattle.users.specs.Users.{LaidOut}
 use Rattle.turns.specs.Keys.{KeysOf}
 
 module _ (base : ℕ) (order keys : List ℕ) (from count : ℕ) (fits : from + count ≤ length order) where

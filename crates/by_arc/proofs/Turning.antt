@@ -13,7 +13,8 @@ use Rattle.game.specs.ByArc.{userCount, leftover, tallied, handled}
 use Rattle.game.proofs.ByArc.{tallied-at, handled-tallies, first-tally, tally-limit}
 use Rattle.tree.specs.Passes.{networkAt}
 use Rattle.users.specs.Users.{LaidOut}
-use Rattle.users.proofs.Listed.{total-has, as-many-users}
+use Rattle.basics.proofs.Totals.{total-has}
+use Rattle.users.proofs.Listed.{as-many-users}
 use Rattle.turns.specs.Keys.{KeysOf, Keys, HandedBack}
 use Rattle.turns.proofs.Served.{users-keys}
 use Rattle.by_arc.proofs.PartKeys.{part-keys, whole-keys, no-user}

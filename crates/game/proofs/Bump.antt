@@ -8,7 +8,7 @@ use borrow.Author.Tests.{eqb-true, eq-eqb}
 use lib.Dec.{eqb}
 use Rattle.basics.specs.Sum.{pick, sum}
 use Rattle.game.specs.Network.{Network, atOrBelow, sumBelow}
-use Rattle.basics.proofs.Bools.{both, eqb-comm, pick-add, pick-swap}
+use Rattle.basics.proofs.Bools.{both, eqb-comm, pick-add, pick-same, pick-swap}
 use Rattle.basics.proofs.Sums.{In, sum-cong, sum-add, sum-at}
 
 -- one unit more for i
@@ -57,10 +57,16 @@ bump-less y j h v =
 pub less-at : (y : ℕ → ℕ) (j : ℕ) → less-one y j j ≡ y j - 1
 less-at y j = ap (λ (b : Bool). y j - pick b 1) (eq-eqb j j refl)
 
-pub below-cong : (n : Network) (x y : ℕ → ℕ) (f : ℕ) → ((v : ℕ) → In (n .arcs) v → x v ≡ y v)
+-- sums of what is the same at or below f
+pub below-same : (n : Network) (f : ℕ) {x y : ℕ → ℕ}
+    → ((v : ℕ) → In (n .arcs) v → atOrBelow n f v ≡ true → x v ≡ y v)
     → sumBelow n x f ≡ sumBelow n y f
 unfolding sumBelow
-below-cong n x y f e = sum-cong (n .arcs) (λ v i. ap (pick (atOrBelow n f v)) (e v i))
+below-same n f same = sum-cong (n .arcs) (λ v i. pick-same (atOrBelow n f v) (same v i))
+
+pub below-cong : (n : Network) (x y : ℕ → ℕ) (f : ℕ) → ((v : ℕ) → In (n .arcs) v → x v ≡ y v)
+    → sumBelow n x f ≡ sumBelow n y f
+below-cong n x y f e = below-same n f (λ v i b. e v i)
 
 pub squares-cong : (m : ℕ) (x y : ℕ → ℕ) → ((v : ℕ) → x v ≡ y v) → squares m x ≡ squares m y
 squares-cong m x y e = sum-cong m (λ v i. ap (λ (z : ℕ). z * z) (e v))

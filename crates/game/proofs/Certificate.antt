@@ -85,7 +85,7 @@ module _ (n : Network) (rooted : Rooted n) where
   module _ (w g : ℕ → ℕ) (of-members : OfMembers n w)
       (bounded : (v : ℕ) → In (n .arcs) v → w v + children n g v ≤ n .cost v + g v) where
     -- what a group lacks: the amounts of the arcs that it does not use though it could go on to them
-    abbrev pub lacking : (ℕ → Bool) → ℕ
+    abbrev lacking : (ℕ → Bool) → ℕ
     lacking s = sum (n .arcs) (λ u. pick (top n (used n s) u && not (used n s u)) (g u))
 
     own-used : (s : ℕ → Bool) (v : ℕ) → In (n .arcs) v → pick (s v) (w v) ≤ pick (used n s v) (w v)

@@ -36,6 +36,9 @@ module _ (n : Network) where
   pub view-off : (l : List ℕ) → OfMembers n (view l)
   view-off l v i m = pick-no (getD l (number n v) 0) m
 
+  pub view-zeros : (m v : ℕ) → view (replicate m 0) v ≡ 0
+  view-zeros m v = ap (pick (n .member v)) (zeros m (number n v)) ∙ pick-zero (n .member v)
+
   -- members with one number are one
   one-number : (u v : ℕ) → In (n .arcs) u → In (n .arcs) v → n .member u ≡ true → n .member v ≡ true
       → number n u ≡ number n v → u ≡ v
@@ -202,7 +205,7 @@ module _ (n : Network) (rooted : Rooted n) (caps : List ℕ) (amount : ℕ → �
   all-units k (suc t) l i h s = one-more k t i (omega arith) (units n caps k t l) (all-units k t l i (omega arith) s)
 
   -- one arc more is finished
-  pub next-arc : (k : ℕ) (l : List ℕ) → suc k ≤ n .arcs → Stands n caps amount (suc k) 0 l
+  next-arc : (k : ℕ) (l : List ℕ) → suc k ≤ n .arcs → Stands n caps amount (suc k) 0 l
       → Stands n caps amount k 0 (units n caps (suc k) (amount (suc k)) l)
   next-arc k l h s =
       let done = all-units (suc k) (amount (suc k)) l (omega arith) (omega arith) s in
@@ -219,13 +222,13 @@ module _ (n : Network) (rooted : Rooted n) (caps : List ℕ) (amount : ℕ → �
   all-arcs (suc k) l h s = all-arcs k (units n caps (suc k) (amount (suc k)) l) (omega arith) (next-arc k l h s)
 
   -- before the first arc
-  pub stands-start : Stands n caps amount (n .arcs) 0 (replicate (memberCount n) 0)
+  stands-start : Stands n caps amount (n .arcs) 0 (replicate (memberCount n) 0)
   stands-start =
       record {
         sized = length-replicate {A = ℕ} (memberCount n) 0;
         reached =
             reached-same n (view n caps) amount (n .arcs) 0 (λ v. 0) (view n (replicate (memberCount n) 0))
-            (λ v i. sym (ap (pick (n .member v)) (zeros (memberCount n) (number n v)) ∙ pick-zero (n .member v)))
+            (λ v i. sym (view-zeros n (memberCount n) v))
             (start n rooted (view n caps) amount (view-off n caps) enough);
       }
 

@@ -175,7 +175,7 @@ module _ (n : Network) (rooted : Rooted n) (cap amount : ℕ → ℕ) (cap-off :
           )
 
   -- what the arc's users have so far
-  pub so-far : (k t : ℕ) (x : ℕ → ℕ) → In (n .arcs) k → Reached n cap amount k t x
+  so-far : (k t : ℕ) (x : ℕ → ℕ) → In (n .arcs) k → Reached n cap amount k t x
       → sumBelow n x k + amount k ≡ lower n amount k + t
   so-far k t x i r = omega (arith, r .given k (omega arith), lower-after k i, pick-yes t (below-self n rooted k))
 

@@ -21,9 +21,8 @@ mod Smallest
 mod Descent
 pub mod LevelRule
 pub mod LevelList
-pub mod Rise
-pub mod Raise
-pub mod LevelRoom
+mod Rise
+mod Raise
 mod Meets
 mod GroupSums
 mod Weights
@@ -34,3 +33,8 @@ pub mod Gifts
 pub mod NaturalShares
 pub mod EvenCore
 pub mod ByArc
+pub mod LevelKeys
+pub mod PathKeys
+pub mod LevelByKeys
+pub mod LevelCosts
+pub mod HeldBounds

@@ -7,7 +7,7 @@ use mathlib.Core.List.{List}
 use native.Mathlib.Decide.{decLt, ℕ-discrete}
 use native.Mathlib.Numerals.{add-one}
 use native.Mathlib.Omega.{arith}
-use borrow.Author.Tests.{eq-eqb, ne-eqb, ltb-true, ltb-false, lt-ltb, le-ltb}
+use borrow.Author.Tests.{eq-eqb, ne-eqb, ltb-true, lt-ltb, le-ltb}
 use lib.ListN.{length, getD, set, length-set}
 use lib.Seq.{getD-set-same, getD-set-other}
 use lib.Dec.{eqb, ltb}
@@ -16,16 +16,9 @@ use Rattle.game.specs.Network.{Network, memberCount}
 use Rattle.game.specs.Core.{users}
 use Rattle.game.specs.Level.{mayTake, firstLeast, unit, units}
 use Rattle.game.proofs.Rise.{rise, fill}
-use Rattle.basics.proofs.Bools.{both, and-both, and-first, and-second, pick-yes, pick-no}
+use Rattle.basics.proofs.Bools.{both, and-both, and-first, and-second, pick-yes, pick-no, smaller-is}
 use Rattle.basics.proofs.Sums.{sum₀-cong, sum₀-add, sum₀-zero, sum₀-at}
 use Rattle.game.proofs.Smallest.{is-first}
-
-pub smaller-is : (a b : ℕ) → smaller a b ≡ a - (a - b)
-smaller-is a b =
-    ⊎-elim
-    (λ (e : ltb a b ≡ true). rw e (omega (arith, ltb-true a b e)))
-    (λ (e : ltb a b ≡ false). rw e (omega (arith, ltb-false a b e)))
-    (both (ltb a b))
 
 module _ (n : Network) (caps : List ℕ) (k : ℕ) (l : List ℕ) where
   -- r is the list l with arc k's users raised

@@ -5,5 +5,6 @@ pub mod Proposal
 pub mod Search
 pub mod Core
 pub mod Level
+pub mod LevelKeys
 pub mod ByArc
 pub mod Shapley

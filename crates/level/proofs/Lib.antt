@@ -1,3 +1,3 @@
 mod Shortage
-mod Splitting
+mod AtNeeds
 pub mod CapsAccepted

@@ -1,4 +1,4 @@
-// The level split: whether the caps are enough, and the arcs from the last down to the first.
+// The level split: whether the caps are enough, and the shares where they are.
 mod arcs;
 mod short;
 

@@ -31,10 +31,10 @@ module _ (n : Network) {vertices : List ℕ} (listed : vertices ≡ members n) w
   member-count = ap length listed ∙ members-length (n .member) (n .arcs)
 
   -- member j's vertex
-  vertex-at : (j : ℕ) → j < length vertices → Vertex (n .member) (n .arcs) j
+  pub vertex-at : (j : ℕ) → j < length vertices → Vertex (n .member) (n .arcs) j
   vertex-at j h = vertex-of (n .member) (n .arcs) j (omega (arith, member-count))
 
-  vertex-is : (j : ℕ) (h : j < length vertices) → getD vertices j 0 ≡ vertex-at j h .vertex
+  pub vertex-is : (j : ℕ) (h : j < length vertices) → getD vertices j 0 ≡ vertex-at j h .vertex
   vertex-is j h =
       let v = vertex-at j h in
       ap₂ (λ (l : List ℕ) (i : ℕ). getD l i 0) listed (sym (v .numbered))

@@ -19,7 +19,8 @@ use Rattle.game.proofs.Keys.{keyOf, below-none, below-step, keys-apart}
 use Rattle.game.proofs.Gifts.{usersBelow, served-below}
 use Rattle.game.proofs.ByArc.{tallied-at}
 use Rattle.users.specs.Users.{Lists}
-use Rattle.users.proofs.Listed.{total-places, as-many-users, list-length, number-below, number-user}
+use Rattle.basics.proofs.Totals.{total-places}
+use Rattle.users.proofs.Listed.{as-many-users, list-length, number-below, number-user}
 use Rattle.turns.specs.Keys.{KeysOf, lower, Keys, HandedBack}
 use Rattle.turns.specs.Bound.{Raised}
 

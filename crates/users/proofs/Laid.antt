@@ -7,7 +7,7 @@ use borrow.Author.Tests.{eq-eqb}
 use lib.ListN.{length, getD, take, drop}
 use lib.Seq.{drop-cons}
 use lib.Dec.{eqb}
-use Rattle.basics.specs.Sum.{pick, list, sum₀}
+use Rattle.basics.specs.Sum.{pick, list, sum₀, total}
 use Rattle.game.specs.Network.{Network, atOrBelow, memberCount, members}
 use Rattle.game.specs.Tree.{ofArc}
 use Rattle.game.specs.Core.{users}
@@ -22,9 +22,9 @@ use Rattle.game.proofs.Shapley.{user-count-pos}
 use Rattle.tree.specs.Passes.{Sound, Listed, networkAt}
 use Rattle.tree.proofs.CapPass.{member-in}
 use Rattle.tree.proofs.Vertices.{vertices-count, vertices-few, listed-end}
-use Rattle.users.specs.Users.{total, LaidOut}
+use Rattle.users.specs.Users.{LaidOut}
 use Rattle.users.specs.Layout.{Counts, Begins, Begun, slot, Apart, Ordered}
-use Rattle.users.proofs.Listed.{total-places}
+use Rattle.basics.proofs.Totals.{total-places}
 use Rattle.users.proofs.UserSums.{over-members, over-users}
 use Rattle.users.proofs.Walk.{before, arc-filled, all-filled, arc-within}
 

@@ -31,7 +31,7 @@ module _ (n : Network) (start : ℕ → ℕ) where
   at-users g = sumBelow n (λ v. pick (n .member v) (g (start v)))
 
   -- by a sum of g over them: the places of arc v's users are the `userCount` many from its start on
-  abbrev pub Filled : (ℕ → ℕ) → ℕ → Type 0
+  abbrev Filled : (ℕ → ℕ) → ℕ → Type 0
   Filled g v = before g (start v) + at-users g v ≡ before g (start v + userCount n v)
 
   module _ (rooted : Rooted n) (begins : Begins (n .arcs) (n .parent) (userCount n) start) where

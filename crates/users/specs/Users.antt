@@ -1,18 +1,13 @@
 -- A list of an arc's users, and the members laid out so that each arc's users stand side by side.
 use Prim.Native.Nat.{ℕ, _+_, _≤_, _<_}
 use mathlib.Core.Path.{_≡_}
-use mathlib.Core.List.{List, [], _∷_}
+use mathlib.Core.List.{List}
 use lib.ListN.{length, getD, take, drop}
-use Rattle.basics.specs.Sum.{pick, sum₀}
+use Rattle.basics.specs.Sum.{pick, sum₀, total}
 use Rattle.game.specs.Network.{Network, memberCount, members}
 use Rattle.game.specs.Tree.{ofArc}
 use Rattle.game.specs.Core.{users}
 use Rattle.users.specs.Layout.{slot}
-
--- the sum of g over a list
-unfoldable pub total : (ℕ → ℕ) → List ℕ → ℕ
-total g [] = 0
-total g (u ∷ us) = g u + total g us
 
 -- the list has the number of each user of arc k once, in any order: a sum over it is the sum over the users
 pub record Lists (n : Network) (k : ℕ) (us : List ℕ) : Type 0 where

@@ -5,8 +5,8 @@ use native.Mathlib.Numerals.{add-one}
 use native.Mathlib.Omega.{arith}
 use borrow.Author.Needs.{needs}
 use Rattle.basics.proofs.Sums.{In}
+use Rattle.game.proofs.ArcEntries.{arc-entry}
 use Rattle.users.specs.Layout.{Apart}
-use Rattle.users.proofs.Parts.{entry}
 use Rattle.users.proofs.OrderPass.{Ordering, ordering-start, ordering-on, ordering-end}
 use Rattle.users.proofs.write_order.Statement.{statement}
 use Rattle.users.proofs.write_order.Tie as tie
@@ -39,7 +39,7 @@ place-here : (c : Turn)
 place-here c =
     let starts = now (c .before .before .args .starts) in
     let at = c .before .loop in
-    omega (arith, entry starts (arc c) (arc-here c .low), at .inv .0 .within (at .j) (omega arith))
+    omega (arith, arc-entry starts (arc c) (arc-here c .low), at .inv .0 .within (at .j) (omega arith))
 
 cast-arc : tie.Need-cast-arc Inv-loop μ-loop
 cast-arc c = omega (arith, c .shared-slice-known .given (c .before .before .loop .j))
@@ -63,7 +63,7 @@ loop-again : tie.Need-loop-again Inv-loop μ-loop
 loop-again c =
     let turn = c .before .before in
     let at = turn .before .loop in
-    let place = entry _ _ (arc-here turn .low) in
+    let place = arc-entry _ _ (arc-here turn .low) in
     (at .inv .0, rw (add-one (at .j)) (ordering-on _ _ (at .inv .0) (omega arith) (at .inv .1) _ place))
 
 returns : tie.Need-returns Inv-loop μ-loop

@@ -1,3 +1,0 @@
-mod Turns
-mod Bisection
-pub mod Arc

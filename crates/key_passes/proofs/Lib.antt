@@ -1,0 +1,5 @@
+pub mod Places
+pub mod Filtered
+mod Evaluating
+mod Settling
+mod Keeping

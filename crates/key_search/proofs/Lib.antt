@@ -1,0 +1,10 @@
+mod State
+mod Opened
+mod Decided
+mod Moved
+mod Round
+mod Begun
+mod Spreading
+mod Placing
+mod Vertices
+mod Searching
