@@ -11,11 +11,10 @@ use lib.ListN.{length}
 use lib.IntN.{ℤ}
 use Rattle.basics.specs.Sum.{list, size}
 use Rattle.basics.specs.Bit.{bit}
-use Rattle.basics.proofs.Bools.{both, clash, not-so, and-both, and-first, and-second, pick-yes, pick-no, pick-same}
-use Rattle.basics.proofs.Sums.{In, sum-zero}
+use Rattle.basics.proofs.Bools.{both, pick-same}
+use Rattle.basics.proofs.Sums.{In}
 use Rattle.basics.proofs.Lists.{list-cong}
-use Rattle.game.specs.Network.{Network, atOrBelow, used, everyone, groupCost, sumBelow, need, wholeCost, memberCount}
-use Rattle.game.specs.Network.{members}
+use Rattle.game.specs.Network.{Network, used, everyone, groupCost, need, wholeCost, memberCount, members}
 use Rattle.game.specs.Tree.{Tree, treeOf, ofArc, networkOf, counted, countedCosts, network}
 use Rattle.game.specs.Core.{users}
 use Rattle.game.specs.ByArc.{rank, talliesAt, byArc}
@@ -23,8 +22,7 @@ use Rattle.game.specs.Level.{units, level}
 use Rattle.game.specs.Group.{wordsOf, byNumber}
 use Rattle.game.specs.Proposal.{difference}
 use Rattle.game.specs.Search.{isIn, named}
-use Rattle.game.proofs.Below.{Rooted, below-trans}
-use Rattle.game.proofs.Groups.{used-of, used-by}
+use Rattle.game.proofs.Unused.{unused-need}
 use Rattle.game.proofs.Counted.{unused-free}
 use Rattle.answer_forms.specs.Answer.{Check, Answer, answer, written, _then_}
 use Rattle.answers.specs.Checks.{treeCheck, groupCheck, outputCheck, proposalCheck}
@@ -40,38 +38,11 @@ use Rattle.answers.specs.States.{padded, madeState}
 use Rattle.answers.specs.Unused.{UnusedStatement, DifferUnused, StubStatement}
 use Rattle.answers.proofs.Accepted.{tree-accepted}
 
-module _ (n : Network) (rooted : Rooted n) (k : ℕ) (unused : used n everyone k ≡ false) where
-  -- nobody uses an arc below it either
-  unused-below : (e : ℕ) → atOrBelow n k e ≡ true → used n everyone e ≡ false
-  unused-below e below =
-      not-so (used n everyone e)
-      (λ u.
-      let b = used-by n everyone e u in
-      clash
-      (used-of n {g = everyone} {k = k}
-      (record {
-        by = b .by;
-        within = b .within;
-        chosen = b .chosen;
-        uses =
-            and-both (and-first (n .member (b .by)) (atOrBelow n e (b .by)) (b .uses))
-            (below-trans n rooted k e (b .by) below
-            (and-second (n .member (b .by)) (atOrBelow n e (b .by)) (b .uses)));
-      }))
-      unused)
-
 pub unused-laws : UnusedStatement
-unfolding sumBelow units
+unfolding units
 unused-laws t ok k arc unused =
     record {
-      no-need =
-          sum-zero (length (t .parents))
-          (λ e i.
-          ⊎-elim
-          (λ (b : atOrBelow n k e ≡ true).
-          pick-yes (n .cost e) b ∙ unused-free t e i (unused-below n (tree-accepted t ok .rooted) k unused e b))
-          (λ (b : atOrBelow n k e ≡ false). pick-no (n .cost e) b)
-          (both (atOrBelow n k e)));
+      no-need = unused-need n (tree-accepted t ok .rooted) k unused (unused-free t);
       no-gift =
           λ j.
           rw (free, zero-div, zero-mod, le-ltb (rank n k (talliesAt n k) j) 0 (omega arith))

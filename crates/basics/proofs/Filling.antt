@@ -1,4 +1,4 @@
--- A loop that writes a list from its first place on.
+-- Loops that write a list: from its first place on, from its last place down, and over what it held.
 use Prim.Native.Nat.{ℕ, suc, _+_, _≤_, _<_}
 use mathlib.Core.Path.{_≡_, refl, sym, _∙_}
 use mathlib.Core.List.{List}
@@ -39,6 +39,33 @@ module _ (n : ℕ) (f : ℕ → ℕ) where
     filling-end h wanted e says =
         ext-getD 0 out wanted (s .kept ∙ sym e)
         (λ u l. s .filled u (omega (arith, s .kept)) ∙ sym (says u (omega (arith, s .kept))))
+
+-- a loop that writes a list from its last place down
+module _ (n : ℕ) (f : ℕ → ℕ) where
+  -- of n places those from k on hold what f says
+  pub record FilledFrom (out : List ℕ) (k : ℕ) : Type 0 where
+    pub kept : length out ≡ n
+    pub filled : (u : ℕ) → k ≤ u → u < n → getD out u 0 ≡ f u
+
+  pub from-end : {out : List ℕ} {k : ℕ} → k ≡ n → length out ≡ n → FilledFrom out k
+  from-end e l = record { kept = l; filled = λ u lo hi. absurd (omega arith) }
+
+  pub from-next : {out : List ℕ} {k j : ℕ} → FilledFrom out k → k ≤ n → k ≡ suc j → (w : ℕ) → w ≡ f j
+      → FilledFrom (set out j w) j
+  from-next {out} {k} {j} s within next w e =
+      record {
+        kept = length-set out j w ∙ s .kept;
+        filled =
+            λ u lo hi. elim
+            (ℕ-discrete u j) [ yes d ↦ here u d | no d ↦ getD-set-other out j u w 0 d ∙ s .filled u (omega arith) hi ];
+      }
+    where
+      here : (u : ℕ) → u ≡ j → getD (set out j w) u 0 ≡ f u
+      here u d = rw d (getD-set-same out j w 0 (omega (arith, s .kept)) ∙ e)
+
+  pub from-start : {out : List ℕ} {k : ℕ} → k ≡ 0 → FilledFrom out k → (g : ℕ → ℕ) → ((u : ℕ) → f u ≡ g (suc u))
+      → out ≡ list n g
+  from-start {out} e s g is = list-is g 0 n out (s .kept) (λ u l. s .filled u (omega arith) l ∙ is u)
 
 -- a loop that writes each entry of a list anew, from its first place on
 module _ (before : List ℕ) (f : ℕ → ℕ) where

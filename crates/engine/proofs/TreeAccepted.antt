@@ -1,4 +1,5 @@
--- What the passes ask of the lists of an accepted tree, and of its counted costs in a local list.
+-- What the passes ask of the lists of an accepted tree, and of its counted costs in a local list; the latter also of a
+-- tree whose lists are as the passes ask, so that it may have no member.
 use Prim.Native.Nat.{ℕ, _-_, _≤_}
 use mathlib.Core.Path.{_≡_, sym, ap, _∙_}
 use mathlib.Core.List.{List, [], _++_}
@@ -44,9 +45,35 @@ module _ (t : Tree) {cs : List ℕ} (are : cs ≡ countedCosts t) where
       rw (counted-part rest)
       (ap (λ (k : ℕ). sum k (ofArc (countedCosts t))) (counted-length t))
 
+module _ (t : Tree) (sound : Sound (t .parents)) (costed : Costed (t .parents) (t .costs))
+    (marks : Marked (t .parents) (t .marks)) where
+  -- what the pass asks for that writes the counted costs to the local list
+  pub sound-lent : Sound (t .parents)
+      × (Costed (t .parents) (t .costs)
+      × (Marked (t .parents) (t .marks)
+      × (length {A = ℕ} (take (length (t .parents) - 0) (replicate mostArcs 0)) ≡ length (t .parents))))
+  sound-lent = (sound, (costed, (marks, zeros-length mostArcs (length (t .parents)) (sound .few))))
+
+  -- and what the others ask for, at the counted costs
+  pub sound-lists : {cs : List ℕ} → cs ≡ countedCosts t → (rest : List ℕ)
+      → Sound (t .parents)
+      × (Costed (t .parents) (take (length (t .parents) - 0) (cs ++ rest)) × Marked (t .parents) (t .marks))
+  sound-lists are rest =
+      (sound, (rw (counted-part t are rest) counted, marks))
+    where
+      counted : Costed (t .parents) (countedCosts t)
+      counted =
+          record {
+            sized = counted-length t;
+            limited = λ k. omega (arith, counted-le t k, costed .limited k);
+          }
+
 module _ (t : Tree) (ok : treeCheck t ≡ accepted) where
   pub accepted-sound : Sound (t .parents)
   accepted-sound = let a = tree-accepted t ok in record { few = a .few; rising = a .rooted }
+
+  pub accepted-costed : Costed (t .parents) (t .costs)
+  accepted-costed = let a = tree-accepted t ok in record { sized = sym (a .same); limited = a .limited }
 
   pub accepted-marked : Marked (t .parents) (t .marks)
   accepted-marked = let a = tree-accepted t ok in record { sized = a .one-a-vertex; ends = a .ends }
@@ -54,33 +81,16 @@ module _ (t : Tree) (ok : treeCheck t ≡ accepted) where
   pub accepted-count : count (length (t .marks)) (marked (t .marks)) ≡ memberCount (network t)
   accepted-count = marks-count (t .parents) (t .marks) accepted-marked
 
-  -- what the pass asks for that writes the counted costs to the local list
   pub counted-lent : Sound (t .parents)
       × (Costed (t .parents) (t .costs)
       × (Marked (t .parents) (t .marks)
       × (length {A = ℕ} (take (length (t .parents) - 0) (replicate mostArcs 0)) ≡ length (t .parents))))
-  counted-lent =
-      let a = tree-accepted t ok in (
-        accepted-sound,
-        (
-          record { sized = sym (a .same); limited = a .limited },
-          (accepted-marked, zeros-length mostArcs (length (t .parents)) (a .few)),
-        ),
-      )
+  counted-lent = sound-lent t accepted-sound accepted-costed accepted-marked
 
-  -- and what the others ask for, at the counted costs
   pub accepted-lists : {cs : List ℕ} → cs ≡ countedCosts t → (rest : List ℕ)
       → Sound (t .parents)
       × (Costed (t .parents) (take (length (t .parents) - 0) (cs ++ rest)) × Marked (t .parents) (t .marks))
-  accepted-lists are rest =
-      (accepted-sound, (rw (counted-part t are rest) counted, accepted-marked))
-    where
-      counted : Costed (t .parents) (countedCosts t)
-      counted =
-          record {
-            sized = counted-length t;
-            limited = λ k. omega (arith, counted-le t k, tree-accepted t ok .limited k);
-          }
+  accepted-lists = sound-lists t accepted-sound accepted-costed accepted-marked
 
   pub counted-few : {cs : List ℕ} → cs ≡ countedCosts t → (rest : List ℕ)
       → length (take (length (t .parents) - 0) (cs ++ rest)) ≤ mostArcs

@@ -1,25 +1,25 @@
 -- The core theorem: the lists of the core are those that add up and give every arc's users the paper's bound, or the
 -- need.
-use Prim.Native.Nat.{ℕ, _+_, _-_, _≤_, _<_}
+use Prim.Native.Nat.{ℕ, _+_, _≤_, _<_}
 use mathlib.Core.Path.{_≡_, sym, ap, _∙_}
 use mathlib.Core.Bool.{Bool, true, false}
 use mathlib.Core.Logic.{⊎-elim}
 use mathlib.Core.List.{List}
 use native.Mathlib.Omega.{arith}
-use lib.Dec.{eqb}
 use lib.IntN.{ℤ, pos}
 use lib.Signed.{_≤ℤ_}
-use Rattle.basics.specs.Sum.{pick, sum₀}
+use Rattle.basics.specs.Sum.{pick, sum, sum₀}
 use Rattle.game.specs.Network.{Network, atOrBelow, groupCost, sumBelow, need, wholeCost, number, memberCount}
 use Rattle.game.specs.Group.{byNumber}
 use Rattle.basics.specs.Integer.{plus, minus}
 use Rattle.game.specs.Proposal.{share, pays}
 use Rattle.game.specs.Core.{users, others, bound, AddsUp, Core, CoreByBound, CoreByNeed}
-use Rattle.basics.proofs.Bools.{both, pick-yes, pick-no, pick-zero, pick-add}
-use Rattle.basics.proofs.Sums.{In, sum-cong, sum-add, sum-zero, sum-parts}
-use Rattle.game.proofs.Below.{Rooted, sum-below-children, sum-from-source}
-use Rattle.game.proofs.Certificate.{children, OfMembers, certificate}
+use Rattle.basics.proofs.Bools.{both, pick-yes, pick-no, pick-zero}
+use Rattle.basics.proofs.Sums.{In, sum-cong, sum-zero, sum-parts}
+use Rattle.game.proofs.Below.{Rooted, sum-below-children}
+use Rattle.game.proofs.Certificate.{OfMembers}
 use Rattle.game.proofs.Excess.{MembersEnd, no-children}
+use Rattle.game.proofs.Spare.{spare-bound}
 use Rattle.game.proofs.Numbering.{vertex-of}
 use Rattle.basics.proofs.Integers.{less-parts, less-le, le-less, less-is, le-trans-ℤ, no-minus}
 use Rattle.game.proofs.Overpayment.{over-at, under-at, group-sum, by-vertex, less-pays}
@@ -114,34 +114,9 @@ module _ (n : Network) (rooted : Rooted n) (end : MembersEnd n) (shares : List �
       ap (λ (i : ℕ). minus (share shares i)) (sym (v .numbered))
       ∙ no-under (bound-to-need n rooted shares (core-to-bound n shares core)) (v .vertex) (v .within) (v .is-member)
 
-  -- what an arc's users pay beyond its need
-  spare : ℕ → ℕ
-  spare k = sumBelow n (over-at n shares) k - need n k
-
   module _ (core : CoreByNeed n shares) where
     pub enough : (k : ℕ) → In (n .arcs) k → need n k ≤ sumBelow n (over-at n shares) k
     enough k i = omega (arith, need-parts n shares core k i)
-
-    -- over the children of a vertex
-    spare-children : (v : ℕ) → children n spare v + children n (need n) v ≡ children n (sumBelow n (over-at n shares)) v
-    unfolding spare
-    spare-children v =
-        sym (sum-add (n .arcs) (λ u. pick (eqb (n .parent u) v) (spare u)) (λ u. pick (eqb (n .parent u) v) (need n u)))
-        ∙ sum-cong (n .arcs)
-        (λ u i.
-        sym (pick-add (eqb (n .parent u) v) (spare u) (need n u))
-        ∙ ap (pick (eqb (n .parent u) v)) (omega (arith, enough u i)))
-
-    bounded : (v : ℕ) → In (n .arcs) v → over-at n shares v + children n spare v ≤ n .cost v + spare v
-    unfolding spare
-    bounded v i =
-        omega (
-          arith,
-          spare-children v,
-          enough v i,
-          sum-below-children n rooted (over-at n shares) v i,
-          sum-below-children n rooted (n .cost) v i,
-        )
 
     none-under : (g : ℕ → Bool) → group-sum n (under-at n shares) g ≡ 0
     none-under g = sum-zero (n .arcs) (λ v i. ap (pick (g (number n v))) (none v i) ∙ pick-zero (g (number n v)))
@@ -153,18 +128,8 @@ module _ (n : Network) (rooted : Rooted n) (end : MembersEnd n) (shares : List �
             (λ (m : n .member v ≡ false). pick-no (minus (share shares (number n v))) m)
             (both (n .member v))
 
-    -- nothing is spare over all
-    spare-none : children n spare 0 ≡ 0
-    unfolding wholeCost
-    spare-none =
-        omega (
-          arith,
-          spare-children 0,
-          sum-from-source n rooted (over-at n shares),
-          sum-from-source n rooted (n .cost),
-          pays-whole n shares (core .adds-up),
-          none-under (λ j. true),
-        )
+    pays-all : sum (n .arcs) (over-at n shares) ≡ wholeCost n
+    pays-all = omega (arith, pays-whole n shares (core .adds-up), none-under (λ j. true))
 
     pub need-to-core : Core n shares
     need-to-core = record { adds-up = core .adds-up; no-group-more = no-more }
@@ -175,7 +140,6 @@ module _ (n : Network) (rooted : Rooted n) (end : MembersEnd n) (shares : List �
             less-le (pays n shares g) c (less-pays n shares g) (less-parts c)
             (omega (
               arith,
-              certificate n rooted (over-at n shares) spare
-                  (λ v i m. pick-no (plus (share shares (number n v))) m) bounded (byNumber n g),
-              spare-none,
+              spare-bound n rooted (over-at n shares) (λ v i m. pick-no (plus (share shares (number n v))) m)
+                  pays-all enough (byNumber n g),
             ))

@@ -4,6 +4,7 @@ pub mod Below
 pub mod SumBounds
 pub mod Groups
 pub mod Users
+pub mod Unused
 pub mod DeadEnds
 pub mod Numbering
 pub mod Certificate
@@ -15,8 +16,11 @@ pub mod Encoding
 pub mod ExcessOf
 pub mod Bounds
 pub mod Runs
+mod Spare
 pub mod Core
+pub mod UserSums
 pub mod Bump
+mod Inward
 mod Smallest
 mod Descent
 pub mod LevelRule

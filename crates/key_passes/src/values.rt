@@ -7,10 +7,11 @@ ghost use lib.ListN.{length};
 ghost use Rattle.limits.specs.Limits.{mostArcs};
 ghost use Rattle.key_passes.specs.Passes.{at, Rising, Outside, Addable, Evaluated, ownAt};
 
-fn greater_of(a: u64, b: u64) -> u64
-    ensures { λ r. ⌜ r ≡ max b a ⌝ }
+// What a vertex adds at its link: what its users have, and at least its arc's bound.
+fn handed_on(total: u64, bound: u64) -> u64
+    ensures { λ r. ⌜ r ≡ max bound total ⌝ }
 {
-    if a < b { b } else { a }
+    numbers::greater_of(bound, total)
 }
 
 // From the last vertex to the first, each adding to the sum at its link, an open vertex or 0. `sums` is 0 at every open
@@ -54,7 +55,7 @@ pub fn evaluate(
         sums[v] = 0;
         held[v] = total;
         let p = links[v] as usize;
-        sums[p] = sums[p] + greater_of(total, bounds[v - 1]);
+        sums[p] = sums[p] + handed_on(total, bounds[v - 1]);
     }
     sums[0] = 0;
 }

@@ -8,7 +8,7 @@ pub use signed::minus;
 pub use signed::of_bits;
 pub use signed::plus;
 ghost use mathlib.Core.Path.{_≡_};
-ghost use Prim.Native.Nat.{_-_, _<_, _≤_};
+ghost use Prim.Native.Nat.{_-_, _<_, _≤_, max};
 ghost use lib.Dec.{ltb};
 ghost use Rattle.basics.specs.Sum.{pick, smaller};
 ghost use Rattle.basics.specs.Bit.{digit};
@@ -24,6 +24,12 @@ pub fn smaller_of(a: u64, b: u64) -> u64
     ensures { λ r. ⌜ r ≡ smaller a b ⌝ }
 {
     if a < b { a } else { b }
+}
+
+pub fn greater_of(a: u64, b: u64) -> u64
+    ensures { λ r. ⌜ r ≡ max a b ⌝ }
+{
+    if a < b { b } else { a }
 }
 
 // 1 where a is below b, else 0.

@@ -1,19 +1,18 @@
 -- Sums in a pass from the last arc down that carries each arc's sum to the arc's parent.
 use Prim.Native.Nat.{ℕ, suc, _+_, _≤_, _<_}
-use mathlib.Core.Path.{_≡_, refl, sym, ap, _∙_, subst}
+use mathlib.Core.Path.{_≡_, refl, ap, _∙_, subst}
 use mathlib.Core.List.{List, []}
-use native.Mathlib.Decide.{ℕ-discrete}
 use native.Mathlib.Omega.{arith}
 use borrow.Author.Tests.{eq-eqb}
-use lib.ListN.{length, getD, set, replicate, length-set}
-use lib.Seq.{getD-set-same, getD-set-other}
+use lib.ListN.{length, getD, set, replicate}
+use lib.Seq.{getD-set-other}
 use Rattle.basics.specs.Sum.{sum, list}
 use Rattle.game.specs.Network.{sumBelow}
 use Rattle.game.specs.Tree.{networkOf, ofArc}
 use Rattle.basics.proofs.Bools.{pick-yes}
 use Rattle.game.proofs.Below.{sum-below-children, sum-from-source}
 use Rattle.game.proofs.SumBounds.{sum-below-le, children-le}
-use Rattle.basics.proofs.Lists.{list-is}
+use Rattle.basics.proofs.Filling.{FilledFrom, from-end, from-next, from-start}
 use Rattle.tree.specs.Passes.{Sound}
 use Rattle.tree.proofs.Carry.{amounts, child, Carried, carried-start, carried-at, carried-on}
 
@@ -25,22 +24,20 @@ module _ (ps xs : List ℕ) where
   -- with the arcs 1 to k still to come: the places from k on hold sums, those below k their entries
   pub record Summing (out below : List ℕ) (k : ℕ) : Type 0 where
     pub carried : Carried amounts ps total k below
-    pub kept : length out ≡ length ps
     pub waiting : (i : ℕ) → i < k → getD out i 0 ≡ getD xs i 0
-    pub written : (i : ℕ) → k ≤ i → i < length ps → getD out i 0 ≡ total (suc i)
+    pub written : FilledFrom (length ps) (λ i. total (suc i)) out k
 
   pub summing-start : {k : ℕ} → k ≡ length ps → length xs ≡ length ps → Summing xs (replicate 1024 0) k
   summing-start e l =
       rw e
       (record {
         carried = carried-start amounts ps total;
-        kept = l;
         waiting = λ i h. refl;
-        written = λ i lo hi. absurd (omega arith);
+        written = from-end _ _ refl l;
       })
 
   pub summing-end : {out below : List ℕ} {k : ℕ} → k ≡ 0 → Summing out below k → out ≡ list (length ps) total
-  summing-end {out} e s = list-is total 0 (length ps) out (s .kept) (λ i h. s .written i (omega arith) h)
+  summing-end e s = from-start _ _ e (s .written) total (λ u. refl)
 
   module _ (sound : Sound ps) where
     pub summing-whole : {out below : List ℕ} {k : ℕ} → k ≡ 0 → Summing out below k
@@ -88,15 +85,6 @@ module _ (ps xs : List ℕ) where
             carried =
                 carried-on amounts ps total sound j (omega arith) below here (getD below (getD ps j 0) 0 + w)
                 (ap (λ (x : ℕ). getD below (getD ps j 0) 0 + x) (e ∙ ap total next));
-            kept = length-set out j w ∙ s .kept;
             waiting = λ i h. getD-set-other out j i w 0 (λ d. omega arith) ∙ s .waiting i (omega arith);
-            written =
-                λ i lo hi. elim
-                (ℕ-discrete i j)
-                [ yes d ↦ at-next i d | no d ↦ getD-set-other out j i w 0 d ∙ s .written i (omega arith) hi ];
+            written = from-next _ _ (s .written) within next w (e ∙ ap total next);
           }
-        where
-          at-next : (i : ℕ) → i ≡ j → getD (set out j w) i 0 ≡ total (suc i)
-          at-next i d =
-              ap (λ (u : ℕ). getD (set out j w) u 0) d ∙ getD-set-same out j w 0 (omega (arith, s .kept)) ∙ e
-              ∙ ap total (next ∙ ap suc (sym d))

@@ -25,7 +25,7 @@ use Rattle.tree.proofs.Vertices.{vertices-count, vertices-few, listed-end}
 use Rattle.users.specs.Users.{LaidOut}
 use Rattle.users.specs.Layout.{Counts, Begins, Begun, slot, Apart, Ordered}
 use Rattle.basics.proofs.Totals.{total-places}
-use Rattle.users.proofs.UserSums.{over-members, over-users}
+use Rattle.game.proofs.UserSums.{over-members, over-users}
 use Rattle.users.proofs.Walk.{before, arc-filled, all-filled, arc-within}
 
 -- the sum over a part of a list

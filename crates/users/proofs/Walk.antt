@@ -15,7 +15,7 @@ use Rattle.game.proofs.Below.{Rooted, from-source, child-after, sum-below-child
 use Rattle.game.proofs.Excess.{MembersEnd}
 use Rattle.game.proofs.Core.{own-sum}
 use Rattle.users.specs.Layout.{leaving, Begins}
-use Rattle.users.proofs.UserSums.{count-children, count-from-source, count-own}
+use Rattle.game.proofs.UserSums.{count-children, count-from-source, count-own}
 
 -- g at the places before x
 abbrev pub before : (ℕ → ℕ) → ℕ → ℕ

@@ -83,7 +83,7 @@ from-total c = from-share (c .before .before)
 abbrev from-link : tie.After-slice-known2 Inv-loop μ-loop → Turn
 from-link c = from-total (c .before .before)
 
-abbrev turn : tie.After-greater-of Inv-loop μ-loop → Turn
+abbrev turn : tie.After-handed-on Inv-loop μ-loop → Turn
 turn c = from-link (c .before .before)
 
 cast-v : tie.Need-cast-v Inv-loop μ-loop
@@ -155,32 +155,32 @@ mul-sums-2 c = omega (arith, link-fits (from-total (c .before)), vertex-fits (fr
 slice-read-sums : tie.Need-slice-read-sums Inv-loop μ-loop
 slice-read-sums c = link-reaches (from-link c)
 
-sub-greater-of : tie.Need-sub-greater-of Inv-loop μ-loop
-sub-greater-of c = omega (arith, link-fits (from-link c))
+sub-handed-on : tie.Need-sub-handed-on Inv-loop μ-loop
+sub-handed-on c = omega (arith, link-fits (from-link c))
 
-mul-greater-of : tie.Need-mul-greater-of Inv-loop μ-loop
-mul-greater-of c = omega (arith, vertex-fits (from-link c))
+mul-handed-on : tie.Need-mul-handed-on Inv-loop μ-loop
+mul-handed-on c = omega (arith, vertex-fits (from-link c))
 
-shared-slice-read-greater-of : tie.Need-shared-slice-read-greater-of Inv-loop μ-loop
-shared-slice-read-greater-of c =
+shared-slice-read-handed-on : tie.Need-shared-slice-read-handed-on Inv-loop μ-loop
+shared-slice-read-handed-on c =
     let here = from-link (c .before) in
     omega (arith, ready (began here) .rises .last (here .before .loop .i - 1) (omega arith), link-fits here)
 
 -- the sum at the vertex, and the greater of it and the bound
-abbrev sum : tie.After-greater-of Inv-loop μ-loop → ℕ
+abbrev sum : tie.After-handed-on Inv-loop μ-loop → ℕ
 sum c =
     let here = turn c in
     at (here .before .loop .sums) (vertex here) + at (now (began here .args .rests)) (vertex here)
     + c .before .before .before .before .before .before .share-at .result
 
-sum-is : (c : tie.After-greater-of Inv-loop μ-loop)
+sum-is : (c : tie.After-handed-on Inv-loop μ-loop)
     → sum c ≡ at (turn c .before .loop .sums) (vertex (turn c)) + own (began (turn c)) (vertex (turn c))
 sum-is c = omega (arith, c .before .before .before .before .before .before .share-at .ensures)
 
-more-is : (c : tie.After-greater-of Inv-loop μ-loop)
-    → c .greater-of .result ≡ max (ofArc (now (began (turn c) .args .bounds)) (vertex (turn c))) (sum c)
+more-is : (c : tie.After-handed-on Inv-loop μ-loop)
+    → c .handed-on .result ≡ max (ofArc (now (began (turn c) .args .bounds)) (vertex (turn c))) (sum c)
 more-is c =
-    c .greater-of .ensures
+    c .handed-on .ensures
     ∙ ap (λ (b : ℕ). max b (sum c)) (arc-entry _ (vertex (turn c)) (omega (arith, link-fits (turn c))))
 
 add-sums : tie.Need-add-sums Inv-loop μ-loop
@@ -189,7 +189,7 @@ add-sums c =
     omega (
       arith,
       linked-fits _ _ _ _ (ready (began here)) _ _ (next here) (here .before .loop .inv)
-          (sum c) (c .greater-of .result) (sum-is c) (more-is c),
+          (sum c) (c .handed-on .result) (sum-is c) (more-is c),
     )
 
 mul-sums-3 : tie.Need-mul-sums-3 Inv-loop μ-loop
@@ -247,9 +247,9 @@ evaluate-spec =
     cast-p
     mul-sums-2
     slice-read-sums
-    sub-greater-of
-    mul-greater-of
-    shared-slice-read-greater-of
+    sub-handed-on
+    mul-handed-on
+    shared-slice-read-handed-on
     (λ c κs. search needs)
     add-sums
     mul-sums-3

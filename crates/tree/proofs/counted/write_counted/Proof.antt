@@ -98,7 +98,7 @@ mul-out : tie.Need-mul-out Inv-loop μ-loop
 mul-out c = omega (arith, place (turn-of c), turn-of c .before .loop .inv .0 .few)
 
 slice-write-out : tie.Need-slice-write-out Inv-loop μ-loop
-slice-write-out c = omega (arith, place (turn-of c), turn-of c .before .loop .inv .6 .kept)
+slice-write-out c = omega (arith, place (turn-of c), turn-of c .before .loop .inv .6 .written .kept)
 
 mul-p : tie.Need-mul-p Inv-loop μ-loop
 mul-p c = omega (arith, place (turn-of c), turn-of c .before .loop .inv .0 .few)
@@ -128,7 +128,7 @@ loop-again c =
     )
 
 same-length : tie.Need-same-length Inv-loop μ-loop
-same-length c = omega (arith, c .before .loop .inv .6 .kept, c .before .loop .inv .5)
+same-length c = omega (arith, c .before .loop .inv .6 .written .kept, c .before .loop .inv .5)
 
 returns : tie.Need-returns Inv-loop μ-loop
 returns c = counting-end _ _ _ (omega (arith, c .before .loop .inv .3)) (c .before .loop .inv .6)

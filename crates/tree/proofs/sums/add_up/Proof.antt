@@ -95,7 +95,7 @@ array-read-result : tie.Need-array-read-result Inv-loop μ-loop
 array-read-result c = omega arith
 
 same-length : tie.Need-same-length Inv-loop μ-loop
-same-length c = c .before .loop .inv .4 .kept ∙ sym (c .before .before .pre .1 .0)
+same-length c = c .before .loop .inv .4 .written .kept ∙ sym (c .before .before .pre .1 .0)
 
 returns : tie.Need-returns Inv-loop μ-loop
 returns c =
