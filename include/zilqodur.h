@@ -32,9 +32,9 @@
  *   - no two lists of one call overlap;
  *   - nobody else writes to the lists during the call;
  *   - 240,000 bytes of the stack are free for zilqodur_commit, zilqodur_ask and zilqodur_make_state, which take 214,000, 197,000 and
- *     140,000 of them, 150,000 for zilqodur_report, which takes 140,000, and 100,000 for the others, of which zilqodur_split_level takes
- *     87,000, every other function at most 40,000. A state is 16,392 bytes, wherever it is handed over or comes back; those bytes are
- *     counted in.
+ *     140,000 of them, 170,000 for zilqodur_report, which takes 158,000, 150,000 for zilqodur_split_margin and zilqodur_split_level,
+ *     which take 123,000 and 104,000, and 100,000 for the others, of which every one takes at most 40,000. A state is 16,392 bytes,
+ *     wherever it is handed over or comes back; those bytes are counted in.
  *
  * No function keeps anything between calls, allocates memory or does input or output; calls from several threads are safe. Link with
  * target/staticlib/libcapi.a (x86-64 Linux). */
@@ -74,7 +74,9 @@ enum ZilqodurRefusal {
     ZILQODUR_EVENT_VERTEX = 21, /* [vertex] */
     ZILQODUR_EVENT_MARK = 22, /* [vertex] */
     ZILQODUR_QUOTE_NUMBER = 23,
-    ZILQODUR_EVENT_COUNT = 24
+    ZILQODUR_EVENT_COUNT = 24,
+    ZILQODUR_BRANCH_ARC = 25, /* [arc] */
+    ZILQODUR_BRANCH_USERS = 26 /* [arc] */
 };
 
 /* What a refusal's number says, as a sentence for a person. The strings are constants; nobody frees them. */
@@ -105,6 +107,8 @@ static inline const char *zilqodur_refusal_text(uint32_t refusal) {
         case ZILQODUR_EVENT_MARK: return "arrive at a vertex whose mark is 1, or leave at one whose mark is 0";
         case ZILQODUR_QUOTE_NUMBER: return "the quote's number is not that of the events committed so far";
         case ZILQODUR_EVENT_COUNT: return "1,000,000 events or more are committed";
+        case ZILQODUR_BRANCH_ARC: return "the arc is not one that leaves the source";
+        case ZILQODUR_BRANCH_USERS: return "the arc has fewer than two users";
         default: return "no refusal has this number";
     }
 }
@@ -188,6 +192,13 @@ typedef struct ZilqodurLevel {
     uint64_t shortfall; /* refusal 9: the arc's need less what the caps of its users add up to */
     size_t members;     /* the number of members */
 } ZilqodurLevel;
+
+typedef struct ZilqodurMargin {
+    uint32_t refusal;
+    size_t place;
+    uint64_t margin; /* the greatest that all proper nonempty groups of the arc's users can have together */
+    size_t users;    /* the number of the arc's users: entries written to `out` */
+} ZilqodurMargin;
 
 /* A tree, its by-arc split and the number of events committed. zilqodur_make_state makes one, and zilqodur_commit makes the next one of it.
  * The tree is the first `arcs` entries of `parents`, `costs` and `marks`; `shares` has one share a member. All other entries of a state
@@ -315,6 +326,17 @@ ZilqodurLevel zilqodur_split_level(const uint16_t *parents, size_t parents_count
  * passed over. `out` has one entry a member. Refusals: the tree's, 8. */
 ZilqodurMembers zilqodur_split_by_arc(const uint16_t *parents, size_t parents_count, const uint32_t *costs, size_t costs_count,
                                       const uint16_t *marks, size_t marks_count, uint64_t *out, size_t out_count);
+
+/* Writes the split with the widest margin in the branch of `arc`, an arc that leaves the source and has at least two users. They split its
+ * need: its cost plus the costs of all arcs below it. A group's margin is what its members pay less the costs of those of these arcs that
+ * nobody else uses. No whole split of the need gives every group that is neither empty nor all users more than `margin`; this one gives
+ * each of them at least that. An arc's raised need is its need, with the margin added where not all users use it, or what the raised needs
+ * of its child arcs add up to, whichever is larger, and 0 where nobody uses it. From arc m down to 1, each arc of the branch gives out what
+ * its raised need exceeds that sum by, each unit to the user with the smallest share, ties to the lowest member number. `out` has one entry
+ * for each user of the arc, in rising member number. Any number may be handed over as `arc`. Refusals: the tree's, 25, 26, 8; 25 is also
+ * that of a number outside 1 to m, and the place of 25 and 26 is the number handed over. */
+ZilqodurMargin zilqodur_split_margin(const uint16_t *parents, size_t parents_count, const uint32_t *costs, size_t costs_count,
+                                     const uint16_t *marks, size_t marks_count, size_t arc, uint64_t *out, size_t out_count);
 
 /* Makes the state of a tree, with the shares that zilqodur_split_by_arc writes and with no event committed. Where the tree is refused,
  * `state` is 0 throughout. Refusals: the tree's. */

@@ -10,12 +10,13 @@ use crate::{best, ffi, same};
 use std::hint::black_box;
 
 #[rustfmt::skip]
-pub const ENTRIES: [&str; 13] = [
+pub const ENTRIES: [&str; 14] = [
     "needs", "total", "group search", "by-arc", "level", "job reader", "dead ends", "cap sums",
-    "job length", "job writer", "make state", "ask", "commit",
+    "job length", "job writer", "make state", "ask", "commit", "margin",
 ];
 
 pub const LEVEL: usize = 4;
+pub const MARGIN: usize = 13;
 
 /// Microseconds of a call.
 #[derive(Clone, Copy)]
@@ -112,6 +113,7 @@ pub fn compare(n: &Network) {
         written(p.len(), |out| ffi::list_cap_sums(p, c, m, caps, out)),
         written(p.len(), |out| same::list_cap_sums(p, c, m, caps, out)),
     );
+    compare_margins(n);
     compare_jobs(n);
     compare_states(n);
 }
@@ -126,6 +128,18 @@ fn compare_proposals(n: &Network) {
             same::check_total(p, c, m, &x)
         );
         assert_eq!(ffi::find_group(p, c, m, &x), same::find_group(p, c, m, &x));
+    }
+}
+
+/// The branch, and numbers that are not those of an arc.
+fn compare_margins(n: &Network) {
+    let b = &n.branched;
+    let (p, c, m) = (&b.parents[..], &n.costs[..], &b.marks[..]);
+    for arc in [b.arc, 0, p.len() + 1] {
+        assert_eq!(
+            written(b.users, |out| ffi::split_margin(p, c, m, arc, out)),
+            written(b.users, |out| same::split_margin(p, c, m, arc, out)),
+        );
     }
 }
 
@@ -301,11 +315,21 @@ fn commit(n: &Network) -> Calls<'_> {
     ]
 }
 
+fn margin(n: &Network) -> Calls<'_> {
+    let b = &n.branched;
+    let (p, c, m) = (&b.parents[..], &n.costs[..], &b.marks[..]);
+    let (mut x, mut y) = (vec![0; b.users], vec![0; b.users]);
+    vec![
+        Box::new(move || used(ffi::split_margin(black_box(p), c, m, b.arc, &mut x))),
+        Box::new(move || used(same::split_margin(black_box(p), c, m, b.arc, &mut y))),
+    ]
+}
+
 /// The calls of each entry, in the order of their names.
 #[rustfmt::skip]
-const CALLS: [fn(&Network) -> Calls<'_>; 13] = [
+const CALLS: [fn(&Network) -> Calls<'_>; 14] = [
     needs, total, search, by_arc, level, job, dead_ends, cap_sums, job_length, job_writer,
-    make_state, ask, commit,
+    make_state, ask, commit, margin,
 ];
 
 /// The times of one entry on each of the networks.

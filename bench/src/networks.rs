@@ -54,6 +54,40 @@ impl Shape {
     }
 }
 
+/// The network, changed where no arc from the source would have two users: all
+/// of the star below its first arc, the last two arcs of the chain side by side.
+pub struct Branched {
+    pub parents: Vec<u16>,
+    pub marks: Vec<u16>,
+    /// The first arc from the source that has two users or more; arc 1 where
+    /// there is none.
+    pub arc: usize,
+    /// The number of its users.
+    pub users: usize,
+}
+
+impl Branched {
+    fn new(shape: Shape, parents: &[u16], costs: &[u32]) -> Branched {
+        let mut parents = parents.to_vec();
+        match (shape, &mut parents[..]) {
+            (Shape::Star, [_, others @ ..]) => others.fill(1),
+            (Shape::Chain, [.., before, last]) => *last = *before,
+            _ => (),
+        }
+        let marks = shape.marks(&parents);
+        let tree = Tree::new(&parents, costs, &marks).expect("the tree is accepted");
+        let users = |arc: usize| tree.users[arc].len();
+        let mut arcs = (1..=tree.arcs()).filter(|&arc| tree.parent[arc] == 0);
+        let arc = arcs.find(|&arc| users(arc) > 1).unwrap_or(1);
+        Branched {
+            users: users(arc),
+            arc,
+            parents,
+            marks,
+        }
+    }
+}
+
 pub struct Network {
     pub parents: Vec<u16>,
     pub costs: Vec<u32>,
@@ -63,6 +97,8 @@ pub struct Network {
     pub users: usize,
     pub caps: Vec<u64>,
     pub proposal: Vec<i64>,
+    /// What the margin is measured on, with the same costs.
+    pub branched: Branched,
     /// A job with the same parents and costs, in which every dead end is marked.
     pub job: Job,
     /// The job's bytes.
@@ -119,6 +155,7 @@ impl Network {
             users: tree.users.iter().map(Vec::len).sum(),
             caps,
             proposal,
+            branched: Branched::new(shape, &parents, &costs),
             bytes: job.write(),
             job,
             parents,

@@ -1,6 +1,6 @@
 //! The tables, as Markdown.
 
-use crate::entries::{Times, ENTRIES, LEVEL};
+use crate::entries::{Times, ENTRIES, LEVEL, MARGIN};
 
 /// What was measured on one network.
 pub struct Row {
@@ -64,6 +64,10 @@ pub fn print_summary(rows: &[Row]) {
 /// One entry on all networks.
 pub fn print_entry(rows: &[Row], entry: usize) {
     println!("\n## {}\n", ENTRIES[entry]);
+    if entry == MARGIN {
+        println!("The arc is the first from the source that has at least two users. For one to have them, all of the star is");
+        println!("below its first arc, and the last two arcs of the chain are side by side.\n");
+    }
     let (more, line) = match entry {
         LEVEL => (" Best µs | Engine over best |", "--:|--:|"),
         _ => ("", ""),
@@ -92,8 +96,8 @@ pub fn print_growth(rows: &[Row], from: usize, to: usize) {
     print!("| Network | Arcs | needs | total | group search | dead ends | cap sums ");
     print!("| Job bytes | job reader | job length | job writer ");
     print!("| Sum of users | by-arc | make state | ask | commit ");
-    println!("| level | level, best |");
-    println!("|---{}|", "|--:".repeat(17));
+    println!("| level | level, best | margin |");
+    println!("|---{}|", "|--:".repeat(18));
     let at = |arcs| rows.iter().filter(move |row| row.arcs == arcs);
     for (a, b) in at(from).zip(at(to)) {
         let engine = |entry: usize| b.times[entry].engine / a.times[entry].engine;
@@ -107,6 +111,7 @@ pub fn print_growth(rows: &[Row], from: usize, to: usize) {
         print!("| {:.1} | {:.1} ", factor(a.users, b.users), engine(3));
         print!("| {:.1} | {:.1} ", engine(10), engine(11));
         print!("| {:.1} ", engine(12));
-        println!("| {:.1} | {:.1} |", engine(LEVEL), best(b) / best(a));
+        print!("| {:.1} | {:.1} ", engine(LEVEL), best(b) / best(a));
+        println!("| {:.1} |", engine(MARGIN));
     }
 }

@@ -48,6 +48,19 @@ from divisions import (
 )
 from marks import many_marks, random_marks, small_marks, spare_networks
 from sums import large_sums, random_sums, small_sums, sum_limits, sum_refusals
+from margins import (
+    STATED_MARGINS,
+    costly_branches,
+    large_margins,
+    margin_refusals,
+    margin_ties,
+    no_margin,
+    other_branches,
+    random_margins,
+    runs,
+    small_margins,
+    spare_plots,
+)
 from pruned import check_pruned
 from jobs import (
     T_ARCS,
@@ -188,6 +201,7 @@ STATED = [
     (("write", b"", *T_VALUES, 95), "length 96, refused 20 at 0; others kept"),
     (("write", bytes(256), *T_VALUES, 352), "refused 19 at 0, refused 19 at 0; others kept"),
     (("write", b"", [0, 2], [LARGE, 1], [], [], 0), "refused 4 at 1, refused 4 at 1; others kept"),
+    *STATED_MARGINS,
     *STATED_EVENTS,
     *STATED_QUOTES,
 ]
@@ -237,6 +251,16 @@ PARTS = [
     sum_limits,
     sum_refusals,
     random_sums,
+    small_margins,
+    margin_ties,
+    no_margin,
+    runs,
+    spare_plots,
+    other_branches,
+    costly_branches,
+    large_margins,
+    margin_refusals,
+    random_margins,
     job_notes,
     full_jobs,
     many_arcs,

@@ -54,6 +54,10 @@ static int is_level(ZilqodurLevel found, uint32_t refusal, size_t place, uint64_
     return IS(found.refusal, refusal) && IS(found.place, place) && IS(found.shortfall, shortfall) && IS(found.members, members);
 }
 
+static int is_margin(ZilqodurMargin found, uint32_t refusal, size_t place, uint64_t margin, size_t users) {
+    return IS(found.refusal, refusal) && IS(found.place, place) && IS(found.margin, margin) && IS(found.users, users);
+}
+
 static void trees(void) {
     EXPECT(is_check(zilqodur_check_tree(T(marks)), ZILQODUR_NO_REFUSAL, 0));
     EXPECT(is_check(zilqodur_check_tree(parents, 0, costs, ARCS, marks, ARCS), ZILQODUR_ARC_COUNT, 0));
@@ -200,6 +204,51 @@ static void by_arc_splits(void) {
     EXPECT(are(out, 4, 8, 4));
 }
 
+/* Each kind of refusal, on a list and an arc that also have the fault that is next in the order. The place is the number as handed over. */
+static void refused_margins(void) {
+    static const size_t no_branch[] = {0, 2, 3, ARCS + 1, ZILQODUR_MOST_ARCS + 1, 65537, UINT32_MAX, SIZE_MAX};
+    uint64_t out[MEMBERS] = {7, 7, 7};
+    size_t i;
+    EXPECT(is_margin(zilqodur_split_margin(wrong_parents, ARCS, costs, ARCS, marks, ARCS, 0, out, 1), ZILQODUR_PARENT, 2, 0, 0));
+    EXPECT(is_margin(zilqodur_split_margin(T(no_marks), SIZE_MAX, out, 1), ZILQODUR_NO_MARK, 0, 0, 0));
+    for (i = 0; i < sizeof no_branch / sizeof no_branch[0]; i++) {
+        EXPECT(is_margin(zilqodur_split_margin(T(marks), no_branch[i], out, 2), ZILQODUR_BRANCH_ARC, no_branch[i], 0, 0));
+    }
+    EXPECT(is_margin(zilqodur_split_margin(T(marks), 4, out, 2), ZILQODUR_BRANCH_USERS, 4, 0, 0));
+    EXPECT(is_margin(zilqodur_split_margin(T(marks), 4, out, 1), ZILQODUR_BRANCH_USERS, 4, 0, 0));
+    EXPECT(is_margin(zilqodur_split_margin(T(marks), 1, out, 1), ZILQODUR_OUTPUT_LENGTH, 0, 0, 0));
+    EXPECT(is_margin(zilqodur_split_margin(T(marks), 1, out, MEMBERS), ZILQODUR_OUTPUT_LENGTH, 0, 0, 0));
+    EXPECT(are(out, 7, 7, 7));
+}
+
+/* In the second tree arc 2 has all users too, and arc 4 has one arc below it. */
+static void margins(void) {
+    static const uint16_t run[6] = {0, 1, 2, 2, 4, 2}, ends[6] = {0, 0, 1, 0, 1, 1};
+    static const uint32_t priced[6] = {2, 5, 1, 2, 1, 3};
+    uint64_t out[MEMBERS] = {7, 7, 7};
+    EXPECT(is_margin(zilqodur_split_margin(T(marks), 1, out, 2), ZILQODUR_NO_REFUSAL, 0, 3, 2));
+    EXPECT(are(out, 4, 8, 7));
+    EXPECT(is_margin(zilqodur_split_margin(run, 6, priced, 6, ends, 6, 1, out, MEMBERS), ZILQODUR_NO_REFUSAL, 0, 2, MEMBERS));
+    EXPECT(are(out, 4, 5, 5));
+}
+
+/* A path of arcs of the greatest cost that ends in two members: a margin and shares beyond 32 bits. */
+static void widest(void) {
+    static uint16_t path[ZILQODUR_MOST_ARCS], ends[ZILQODUR_MOST_ARCS];
+    static uint32_t dear[ZILQODUR_MOST_ARCS];
+    const size_t m = ZILQODUR_MOST_ARCS;
+    uint64_t out[MEMBERS] = {7, 7, 7};
+    size_t i;
+    for (i = 0; i < m; i++) {
+        path[i] = (uint16_t)i;
+        dear[i] = 1000000000;
+    }
+    path[m - 1] = (uint16_t)(m - 2);
+    ends[m - 2] = ends[m - 1] = 1;
+    EXPECT(is_margin(zilqodur_split_margin(path, m, dear, m, ends, m, 1, out, 2), ZILQODUR_NO_REFUSAL, 0, 510500000000, 2));
+    EXPECT(are(out, 511500000000, 511500000000, 7));
+}
+
 /* T with nobody at vertex 3: two members, and nobody pays for arc 3. */
 static void spare(void) {
     static const uint16_t some[ARCS] = {0, 1, 0, 1};
@@ -228,6 +277,7 @@ static void spare(void) {
     out[0] = out[1] = 0;
     EXPECT(is_members(zilqodur_split_by_arc(T(some), out, 2), ZILQODUR_NO_REFUSAL, 0, 2));
     EXPECT(are(out, 7, 4, 0) && out[3] == 4);
+    EXPECT(is_margin(zilqodur_split_margin(T(some), 1, out, 1), ZILQODUR_BRANCH_USERS, 1, 0, 0));
 }
 
 /* A star of arcs of the greatest cost, with the greatest caps: sums beyond 32 bits, and the last word of a group. */
@@ -296,6 +346,9 @@ void try_lists(void) {
     cap_sums();
     level_splits();
     by_arc_splits();
+    refused_margins();
+    margins();
+    widest();
     spare();
     largest();
     ends_of_range();

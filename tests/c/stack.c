@@ -19,22 +19,23 @@
 #define COMMIT 214000
 #define ASK 197000
 #define MAKE 140000
-#define REPORT 140000
-#define LEVEL 87000
+#define REPORT 158000
+#define LEVEL 104000
+#define MARGIN 123000
 #define OTHER 40000
 
 /* The bytes below the stack, which may not be touched, are more than a frame has, so that none reaches past them. */
 #define GUARD (1 << 20)
 #define STACK (1 << 18)
 
-static uint16_t parents[ARCS], marks[ARCS], vertices[ARCS];
+static uint16_t parents[ARCS], marks[ARCS], vertices[ARCS], branch[ARCS], branch_marks[ARCS];
 static uint32_t costs[ARCS];
 static uint64_t caps[ARCS], out[ARCS], group[16];
 static int64_t proposal[ARCS];
 static ZilqodurState state;
 static const ZilqodurQuote cheaper = {{1, ZILQODUR_NEW_COST, 999999999}, 0};
 static uint8_t note[NOTE], job[ZILQODUR_MOST_JOB_BYTES], text[ZILQODUR_REPORT_ROOM];
-static size_t members, job_bytes;
+static size_t members, branch_members, job_bytes;
 
 static uint32_t check_tree(void) {
     return zilqodur_check_tree(parents, ARCS, costs, ARCS, marks, ARCS).refusal;
@@ -88,6 +89,10 @@ static uint32_t split_by_arc(void) {
     return zilqodur_split_by_arc(parents, ARCS, costs, ARCS, marks, ARCS, out, members).refusal;
 }
 
+static uint32_t split_margin(void) {
+    return zilqodur_split_margin(branch, ARCS, costs, ARCS, branch_marks, ARCS, 1, out, branch_members).refusal;
+}
+
 static uint32_t make_state(void) {
     return zilqodur_make_state(parents, ARCS, costs, ARCS, marks, ARCS).refusal;
 }
@@ -138,6 +143,7 @@ static const struct {
     {"zilqodur_list_cap_sums", list_cap_sums, OTHER},
     {"zilqodur_split_level", split_level, LEVEL},
     {"zilqodur_split_by_arc", split_by_arc, OTHER},
+    {"zilqodur_split_margin", split_margin, MARGIN},
     {"zilqodur_make_state", make_state, MAKE},
     {"zilqodur_ask", ask, ASK},
     {"zilqodur_commit", commit, COMMIT},
@@ -195,6 +201,16 @@ static int enough(const char *name, size_t bytes) {
     return 1;
 }
 
+/* The tree with all of it below arc 1, and with two members there at least: its last two arcs leave one vertex. */
+static void write_branch(void) {
+    size_t k;
+    for (k = 1; k < ARCS; k++) {
+        branch[k] = parents[k] == 0 ? 1 : parents[k];
+    }
+    branch[ARCS - 1] = branch[ARCS - 2];
+    branch_members = zilqodur_mark_dead_ends(branch, ARCS, costs, ARCS, branch_marks, ARCS).members;
+}
+
 /* Caps that are enough, the group of all members, and a first member who pays a unit more than the whole tree costs:
  * the total is off and a group overpays. */
 static void write_lists(void) {
@@ -209,6 +225,7 @@ static void write_lists(void) {
     for (i = 0; i < members; i++) {
         group[i / 64] |= UINT64_C(1) << (i % 64);
     }
+    write_branch();
     state = zilqodur_make_state(parents, ARCS, costs, ARCS, marks, ARCS).state;
     write_job();
 }

@@ -172,11 +172,16 @@ impl Search {
     }
 }
 
-fn split(parents: &[u16], costs: &[u32], vertices: &[u16], caps: &[u64], out: &mut [u64]) {
+/// The level rule at bounds, of which none is below the sum of those of its
+/// child arcs.
+pub fn write_shares(
+    parents: &[u16],
+    vertices: &[u16],
+    caps: &[u64],
+    bounds: &[u64],
+    out: &mut [u64],
+) {
     let m = parents.len();
-    let mut needs = [0; ARCS];
-    write_needs(parents, costs, &mut needs[..m]);
-    let bounds = &needs[..m];
     let mut search = Search {
         caps: [0; VERTICES],
         numbers: [0; VERTICES],
@@ -215,6 +220,13 @@ fn split(parents: &[u16], costs: &[u32], vertices: &[u16], caps: &[u64], out: &m
     for (j, &v) in vertices.iter().enumerate() {
         out[j] = share_at(caps[j], j as u64, search.lows[usize::from(v)]);
     }
+}
+
+fn split(parents: &[u16], costs: &[u32], vertices: &[u16], caps: &[u64], out: &mut [u64]) {
+    let mut needs = [0; ARCS];
+    let needs = &mut needs[..parents.len()];
+    write_needs(parents, costs, needs);
+    write_shares(parents, vertices, caps, needs, out);
 }
 
 fn checked(

@@ -71,3 +71,9 @@ pub const QUOTE_NUMBER: u32 = 23;
 
 // 1,000,000 events or more are committed.
 pub const EVENT_COUNT: u32 = 24;
+
+// The arc is not one that leaves the source.
+pub const BRANCH_ARC: u32 = 25;
+
+// The arc has fewer than two users.
+pub const BRANCH_USERS: u32 = 26;

@@ -13,6 +13,9 @@ pub mod Table
 pub mod InRange
 mod InTurn
 pub mod ByArcLaws
+pub mod BranchLaws
+pub mod MarginLaws
+pub mod Together
 pub mod Unused
 pub mod Reached
 pub mod Numbers

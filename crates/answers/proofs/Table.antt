@@ -18,6 +18,10 @@ use Rattle.answers.specs.Level.{shortArc, levelAnswer, levelList}
 use Rattle.answers.specs.CapSums.{runningTo, capSumsAnswer, capSumsList}
 use Rattle.game.specs.ByArc.{tallied, giveArc, handled}
 use Rattle.answers.specs.ByArc.{byArcAnswer, byArcList}
+use Rattle.game.specs.LevelKeys.{greatest}
+use Rattle.game.specs.Branch.{branchMarks}
+use Rattle.game.specs.Margin.{raisedWithin, widest}
+use Rattle.answers.specs.Margin.{marginAnswer, marginList}
 use Rattle.answers.specs.States.{padded, madeState, treeIn, stateCheck}
 use Rattle.answers.specs.Events.{outcomeCheck, eventCheck}
 use Rattle.answers.specs.Quotes.{askAnswer, askedShares, commitCheck, commitAnswer, committedState}
@@ -29,7 +33,7 @@ unfolding climb used groupCost sumBelow wholeCost membersTo hasChild deadEnds co
     memberCountAnswer membersAnswer membersList needsAnswer needsList groupCostAnswer totalAnswer searchAnswer
     searchWords firstLeast units arcsDown shortArc levelAnswer levelList tallied giveArc handled byArcAnswer
     byArcList runningTo capSumsAnswer capSumsList padded madeState treeIn stateCheck outcomeCheck eventCheck askAnswer
-    askedShares commitCheck commitAnswer committedState
+    askedShares commitCheck commitAnswer committedState greatest branchMarks raisedWithin widest marginAnswer marginList
 table =
     record {
       T-members = refl;
@@ -70,6 +74,19 @@ table =
       U-by-arc-list = refl;
       X-by-arc = refl;
       X-by-arc-list = refl;
+      T-margin = refl;
+      T-margin-list = refl;
+      Y-margin = refl;
+      Y-margin-list = refl;
+      Z-margin = refl;
+      Z-margin-list = refl;
+      T-margin-0 = refl;
+      T-margin-2 = refl;
+      T-margin-5 = refl;
+      T-margin-last = refl;
+      T-margin-4 = refl;
+      T-margin-4-list = refl;
+      spare-margin = refl;
       T-level-0 = refl;
       U-level-100-list = refl;
       T-9-9-9-total = refl;

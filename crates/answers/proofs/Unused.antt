@@ -1,7 +1,7 @@
 -- Nobody pays for an arc that nobody uses.
 use Prim.Native.Nat.{ℕ}
 use mathlib.Core.Path.{_≡_, sym, ap, ap₂, _∙_}
-use mathlib.Core.Bool.{true, false}
+use mathlib.Core.Bool.{true, false, not, _&&_}
 use mathlib.Core.Logic.{⊎-elim}
 use mathlib.Core.List.{List}
 use native.Mathlib.Nat.{zero-div, zero-mod}
@@ -9,22 +9,26 @@ use native.Mathlib.Omega.{arith}
 use borrow.Author.Tests.{le-ltb}
 use lib.ListN.{length}
 use lib.IntN.{ℤ}
-use Rattle.basics.specs.Sum.{list, size}
+use lib.Dec.{eqb, leb, ltb}
+use Rattle.basics.specs.Sum.{pick, list, size}
 use Rattle.basics.specs.Bit.{bit}
 use Rattle.basics.proofs.Bools.{both, pick-same}
 use Rattle.basics.proofs.Sums.{In}
 use Rattle.basics.proofs.Lists.{list-cong}
-use Rattle.game.specs.Network.{Network, used, everyone, groupCost, need, wholeCost, memberCount, members}
+use Rattle.game.specs.Network.{Network, climb, used, everyone, groupCost, need, wholeCost, memberCount, members}
 use Rattle.game.specs.Tree.{Tree, treeOf, ofArc, networkOf, counted, countedCosts, network}
 use Rattle.game.specs.Core.{users}
-use Rattle.game.specs.ByArc.{rank, talliesAt, byArc}
+use Rattle.game.specs.ByArc.{userCount, rank, talliesAt, byArc}
+use Rattle.game.specs.Branch.{branchMarks, branch}
+use Rattle.game.specs.Margin.{widest, sharesAt}
 use Rattle.game.specs.Level.{units, level}
 use Rattle.game.specs.Group.{wordsOf, byNumber}
 use Rattle.game.specs.Proposal.{difference}
 use Rattle.game.specs.Search.{isIn, named}
 use Rattle.game.proofs.Unused.{unused-need}
+use Rattle.game.proofs.Branch.{branch-used}
 use Rattle.game.proofs.Counted.{unused-free}
-use Rattle.answer_forms.specs.Answer.{Check, Answer, answer, written, _then_}
+use Rattle.answer_forms.specs.Answer.{Check, Answer, fault, answer, written, _then_}
 use Rattle.answers.specs.Checks.{treeCheck, groupCheck, outputCheck, proposalCheck}
 use Rattle.answers.specs.Members.{memberCountAnswer, membersAnswer, membersList}
 use Rattle.answers.specs.Needs.{needsAnswer, needsList}
@@ -34,6 +38,7 @@ use Rattle.answers.specs.Level.{LevelAnswer, capsCheck, shortArc, splitO
 use Rattle.answers.specs.Level.{levelList}
 use Rattle.answers.specs.CapSums.{runningSum, allCaps, capSumsAnswer, capSumsList}
 use Rattle.answers.specs.ByArc.{byArcAnswer, byArcList}
+use Rattle.answers.specs.Margin.{branchAt, marginAnswer, marginList}
 use Rattle.answers.specs.States.{padded, madeState}
 use Rattle.answers.specs.Unused.{UnusedStatement, DifferUnused, StubStatement}
 use Rattle.answers.proofs.Accepted.{tree-accepted}
@@ -87,9 +92,24 @@ module _ (s t : Tree) (differ : DifferUnused s t) where
       (omega (arith, ap length (differ .same-parents), i .low, i .high))
       (ap (λ (n : Network). used n everyone k) moved ∙ u))
 
+-- their branches differ only so too
+branches-differ : (s t : Tree) → length (s .marks) ≡ length (s .parents) → DifferUnused s t → (b : ℕ)
+    → DifferUnused (branch s b) (branch t b)
+unfolding branchMarks
+branches-differ s t sized differ b =
+    record {
+      same-parents = differ .same-parents;
+      same-marks =
+          ap₂
+          (λ (ps ms : List ℕ). list (length ps) (λ v. pick (climb (ofArc ps) b v v) (ofArc ms v)))
+          (differ .same-parents) (differ .same-marks);
+      same-used = λ k i u.
+          differ .same-used k (record { first = i .first; last = i .last }) (branch-used s sized b k u);
+    }
+
 pub stubs-free : StubStatement
 unfolding memberCountAnswer membersAnswer membersList needsAnswer needsList groupCostAnswer totalAnswer searchAnswer
-    searchWords levelAnswer levelList capSumsAnswer capSumsList byArcAnswer byArcList madeState
+    searchWords levelAnswer levelList capSumsAnswer capSumsList byArcAnswer byArcList marginAnswer marginList madeState
 stubs-free s t s-ok t-ok differ =
     record {
       check = check;
@@ -116,6 +136,12 @@ stubs-free s t s-ok t-ok differ =
           by-both (λ c n. written (summed caps out c n) out (list (n .arcs) (runningSum n caps)));
       by-arc = λ out. by-both (λ c n. answer (c then outputCheck (memberCount n) out) (memberCount n));
       by-arc-list = λ out. by-both (λ c n. written (c then outputCheck (memberCount n) out) out (byArc n));
+      margin = λ arc out.
+          by-all arc
+          (λ c n part.
+          answer (margined arc out c n) (record { margin = widest part arc; users = userCount n arc }));
+      margin-list = λ arc out.
+          by-all arc (λ c n part. written (margined arc out c n) out (sharesAt part (widest part arc)));
       shares = λ k. rw (s-ok, t-ok) (ap (λ (n : Network). padded (byArc n)) (same-network s t differ));
     }
   where
@@ -125,6 +151,22 @@ stubs-free s t s-ok t-ok differ =
     -- an answer looks only at the check and the network
     by-both : {A : Type 0} (f : Check → Network → A) → f (treeCheck s) (network s) ≡ f (treeCheck t) (network t)
     by-both f = ap₂ f check (same-network s t differ)
+
+    -- and that of the widest margin at the branch's network besides
+    by-all : {A : Type 0} (arc : ℕ) (f : Check → Network → Network → A)
+        → f (treeCheck s) (network s) (branchAt s arc) ≡ f (treeCheck t) (network t) (branchAt t arc)
+    by-all arc f =
+        by-both (λ c n. f c n (branchAt s arc))
+        ∙ ap (f (treeCheck t) (network t))
+        (same-network (branch s arc) (branch t arc)
+        (branches-differ s t (tree-accepted s s-ok .one-a-vertex) differ arc))
+
+    margined : ℕ → List ℕ → Check → Network → Check
+    margined arc out c n =
+        c
+        then fault (not (leb 1 arc && (leb arc (n .arcs) && eqb (n .parent arc) 0))) 25 arc
+        then fault (ltb (userCount n arc) 2) 26 arc
+        then outputCheck (userCount n arc) out
 
     searched : List ℤ → Check → Network → Answer Verdict
     searched shares c n = answer (c then proposalCheck (memberCount n) shares) (searchVerdict n shares)

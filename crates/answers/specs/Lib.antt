@@ -6,6 +6,7 @@ pub mod Audit
 pub mod Level
 pub mod CapSums
 pub mod ByArc
+pub mod Margin
 pub mod States
 pub mod Events
 pub mod Quotes
@@ -18,6 +19,7 @@ pub mod LevelLaws
 pub mod LevelKeys
 pub mod CapSumsLaws
 pub mod ByArcLaws
+pub mod MarginLaws
 pub mod EventLaws
 pub mod QuoteLaws
 pub mod Unused

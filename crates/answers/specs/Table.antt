@@ -14,6 +14,7 @@ use Rattle.answers.specs.Audit.{found, none, totalAnswer, searchAnswer, 
 use Rattle.answers.specs.Level.{split, refusal, levelAnswer, levelList}
 use Rattle.answers.specs.CapSums.{capSumsAnswer, capSumsList}
 use Rattle.answers.specs.ByArc.{byArcAnswer, byArcList}
+use Rattle.answers.specs.Margin.{MarginValue, marginAnswer, marginList}
 use Rattle.answers.specs.States.{State, noState, madeState}
 use Rattle.answers.specs.Events.{arrive, leave, newCost, eventAt}
 use Rattle.answers.specs.Quotes.{Quote, quoteAt, askAnswer, askedShares, commitAnswer, committedState}
@@ -41,6 +42,18 @@ X = deadEndTree (0 ∷ 1 ∷ 2 ∷ 2 ∷ []) (1 ∷ 1 ∷ 0 ∷ 0 ∷ [])
 -- the tree W
 abbrev pub W : Tree
 W = deadEndTree (0 ∷ 1 ∷ 1 ∷ 0 ∷ []) (10 ∷ 1 ∷ 1 ∷ 8 ∷ [])
+
+-- the tree Y, in which all three members use arcs 1 and 2
+abbrev pub Y : Tree
+Y = deadEndTree (0 ∷ 1 ∷ 2 ∷ 2 ∷ 4 ∷ 2 ∷ []) (2 ∷ 5 ∷ 1 ∷ 2 ∷ 1 ∷ 3 ∷ [])
+
+-- the tree Z, in which one member's arc has the whole cost
+abbrev pub Z : Tree
+Z = deadEndTree (0 ∷ 1 ∷ 1 ∷ []) (0 ∷ 5 ∷ 0 ∷ [])
+
+-- what the margin entry answers
+abbrev pub margin : ℕ → ℕ → MarginValue
+margin d users = record { margin = d; users = users }
 
 -- the sixteen words whose first is w and whose others are 0
 abbrev pub group : ℕ → List ℕ
@@ -123,6 +136,19 @@ pub record Table : Type 0 where
   pub U-by-arc-list : byArcList U (lent 2) ≡ 4 ∷ 3 ∷ []
   pub X-by-arc : byArcAnswer X (lent 2) ≡ value 2
   pub X-by-arc-list : byArcList X (lent 2) ≡ 1 ∷ 1 ∷ []
+  pub T-margin : marginAnswer T 1 (lent 2) ≡ value (margin 3 2)
+  pub T-margin-list : marginList T 1 (lent 2) ≡ 4 ∷ 8 ∷ []
+  pub Y-margin : marginAnswer Y 1 (lent 3) ≡ value (margin 2 3)
+  pub Y-margin-list : marginList Y 1 (lent 3) ≡ 4 ∷ 5 ∷ 5 ∷ []
+  pub Z-margin : marginAnswer Z 1 (lent 2) ≡ value (margin 0 2)
+  pub Z-margin-list : marginList Z 1 (lent 2) ≡ 5 ∷ 0 ∷ []
+  pub T-margin-0 : marginAnswer T 0 (lent 2) ≡ no 25 0
+  pub T-margin-2 : marginAnswer T 2 (lent 2) ≡ no 25 2
+  pub T-margin-5 : marginAnswer T 5 (lent 2) ≡ no 25 5
+  pub T-margin-last : marginAnswer T 18446744073709551615 (lent 2) ≡ no 25 18446744073709551615
+  pub T-margin-4 : marginAnswer T 4 (lent 1) ≡ no 26 4
+  pub T-margin-4-list : marginList T 4 (lent 1) ≡ lent 1
+  pub spare-margin : marginAnswer T-spare 1 (lent 1) ≡ no 26 1
   -- beyond the specification's rows: every arc is short, and a rest of 1 between two users
   pub T-level-0 : levelAnswer T (0 ∷ 0 ∷ 0 ∷ []) (lent 3) ≡ refusal 9 4 4
   pub U-level-100-list : levelList U (100 ∷ 100 ∷ []) (lent 2) ≡ 4 ∷ 3 ∷ []

@@ -18,6 +18,7 @@ use Rattle.answers.specs.Audit.{totalAnswer, searchAnswer, searchWords}
 use Rattle.answers.specs.Level.{levelAnswer, levelList}
 use Rattle.answers.specs.CapSums.{capSumsAnswer, capSumsList}
 use Rattle.answers.specs.ByArc.{byArcAnswer, byArcList}
+use Rattle.answers.specs.Margin.{marginAnswer, marginList}
 use Rattle.answers.specs.States.{madeState}
 
 -- arc k has need 0, and gives nothing to anyone in either split
@@ -54,6 +55,8 @@ pub record SameAnswers (s t : Tree) : Type 0 where
   pub cap-sums-list : (caps out : List ℕ) → capSumsList s caps out ≡ capSumsList t caps out
   pub by-arc : (out : List ℕ) → byArcAnswer s out ≡ byArcAnswer t out
   pub by-arc-list : (out : List ℕ) → byArcList s out ≡ byArcList t out
+  pub margin : (arc : ℕ) (out : List ℕ) → marginAnswer s arc out ≡ marginAnswer t arc out
+  pub margin-list : (arc : ℕ) (out : List ℕ) → marginList s arc out ≡ marginList t arc out
   -- a state holds the costs as they are handed in, but the same shares
   pub shares : (n : ℕ) → madeState s n .shares ≡ madeState t n .shares
 

@@ -5,7 +5,8 @@ use mathlib.Core.Bool.{Bool, _||_, not}
 use mathlib.Core.List.{List, [], _∷_}
 use lib.ListN.{length}
 use lib.Dec.{eqb, ltb, leb}
-use Rattle.game.specs.Tree.{Tree, deadEndTree}
+use Rattle.game.specs.Tree.{Tree, network, deadEndTree}
+use Rattle.game.specs.ByArc.{userCount}
 use Rattle.basics.specs.Bit.{bit}
 use Rattle.answer_forms.specs.Answer.{Check, fault, _then_}
 use Rattle.answer_forms.proofs.Composed.{fault-holds, then-holds}
@@ -13,6 +14,7 @@ use Rattle.limits.specs.Limits.{mostArcs, mostEvents}
 use Rattle.answers.specs.Checks.{treeCheck, plainCheck, bitsCheck, rangeCheck}
 use Rattle.answers.specs.Checks.{memberListCheck, outputCheck, outsideShare}
 use Rattle.answers.specs.Level.{outsideCap}
+use Rattle.answers.specs.Margin.{leavesSource, marginCheck}
 use Rattle.answers.specs.States.{State}
 use Rattle.answers.specs.Events.{Event, applyCheck}
 use Rattle.answers.specs.Quotes.{Quote, limitCheck, numberCheck, commitCheck}
@@ -74,6 +76,13 @@ list-kept outside members l =
 
 pub output-kept : {A : Type 0} (wanted : ℕ) (out : List A) → Kept (outputCheck wanted out)
 output-kept wanted out = fault-kept (not (eqb (length out) wanted)) 7 0
+
+pub margin-kept : (t : Tree) (arc : ℕ) (out : List ℕ) → Kept (marginCheck t arc out)
+margin-kept t arc out =
+    let users = userCount (network t) arc in
+    then-kept (treeCheck t) _ (tree-kept t)
+    (fault-then-kept (not (leavesSource (t .parents) arc)) 24 arc _
+    (fault-then-kept (ltb users 2) 25 arc (outputCheck users out) (output-kept users out)))
 
 form-kept : (bytes : List ℕ) → Kept (formCheck bytes)
 unfolding formCheck

@@ -19,6 +19,7 @@ use Rattle.answers.specs.Audit.{Verdict, found, none, auditCheck, totalAnswer, 
 use Rattle.answers.specs.Level.{LevelAnswer, outsideCap, capsCheck, shortArc, levelOr, splitOr9, levelAnswer}
 use Rattle.answers.specs.CapSums.{capSumsAnswer}
 use Rattle.answers.specs.ByArc.{byArcAnswer}
+use Rattle.answers.specs.Margin.{marginAnswer}
 use Rattle.answers.specs.States.{State as HeldState}
 use Rattle.answers.specs.Events.{Change, arrive, leave, newCost, Event, eventAt, applyCheck}
 use Rattle.answers.specs.Quotes.{Quote, quoteAt, QuoteValue, askAnswer, commitCheck, commitAnswer}
@@ -31,13 +32,13 @@ use Rattle.job.specs.Reader.{Lent, readCheck, jobAnswer}
 use Rattle.job.specs.Writer.{contentsCheck, lengthAnswer, writeCheck, writeAnswer}
 use Rattle.capi.specs.Structs.{encodeMembers, decodeMembers, encodeNeeds, decodeNeeds, encodeGroup, decodeGroup}
 use Rattle.capi.specs.Structs.{encodeTotal, decodeTotal, encodeSearch, decodeSearch, VerdictUnlessRefused}
-use Rattle.capi.specs.Structs.{encodeLevel, decodeLevel}
+use Rattle.capi.specs.Structs.{encodeLevel, decodeLevel, encodeMargin, decodeMargin}
 use Rattle.capi.specs.Structs.{encodeCapSums, decodeCapSums, encodeJob, decodeJob}
 use Rattle.capi.specs.Structs.{encodeJobLength, decodeJobLength}
 use Rattle.capi.specs.Structs.{encodeState, decodeState, encodeEvent, eventBy, encodeQuote, quoteBy}
 use Rattle.capi.specs.Structs.{encodeAsked, decodeAsked}
 use Rattle.capi.proofs.Kept.{Kept, then-kept, tree-kept, plain-kept, bits-kept, list-kept, output-kept}
-use Rattle.capi.proofs.Kept.{apply-kept, commit-kept, read-kept, contents-kept, write-kept}
+use Rattle.capi.proofs.Kept.{margin-kept, apply-kept, commit-kept, read-kept, contents-kept, write-kept}
 
 -- s is the struct of an answer that can be read back: what it stands for, and that its other fields are 0
 pub stands-for : {A S : Type 0} (encode : A → S) (decode : S → A) {a found : A} {s : S} → s ≡ encode found → found ≡ a
@@ -182,6 +183,12 @@ caps-kept t caps out wanted =
     then-kept (treeCheck t) _ (tree-kept t)
     (then-kept (capsCheck members caps) (outputCheck wanted out) (list-kept outsideCap members caps)
     (output-kept wanted out))
+
+pub margin-back : (t : Tree) (arc : ℕ) (out : List ℕ)
+    → decodeMargin (encodeMargin (marginAnswer t arc out)) ≡ marginAnswer t arc out
+unfolding marginAnswer
+margin-back t arc out =
+    answer-back encodeMargin decodeMargin (λ x. refl) (λ n place. refl) _ _ (margin-kept t arc out)
 
 pub cap-sums-back : (t : Tree) (caps out : List ℕ)
     → decodeCapSums (encodeCapSums (capSumsAnswer t caps out)) ≡ capSumsAnswer t caps out

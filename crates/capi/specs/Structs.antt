@@ -11,6 +11,7 @@ use Rattle.answers.specs.Needs.{NeedsValue}
 use Rattle.answers.specs.GroupCost.{GroupCostValue}
 use Rattle.answers.specs.Audit.{Verdict, found, none}
 use Rattle.answers.specs.Level.{LevelAnswer, split, refusal as notSplit}
+use Rattle.answers.specs.Margin.{MarginValue}
 use Rattle.answers.specs.Events.{Change, arrive, leave, newCost, Event, eventAt}
 use Rattle.answers.specs.Quotes.{Quote, QuoteValue}
 use Rattle.numbers.specs.Signed.{isZero}
@@ -24,6 +25,7 @@ use Rattle.capi.specs.declared.group_search.ZilqodurSearch.{ZilqodurSear
 use Rattle.capi.specs.declared.total.ZilqodurTotal.{ZilqodurTotal}
 use Rattle.capi.specs.declared.cap_sums.ZilqodurCapSums.{ZilqodurCapSums}
 use Rattle.capi.specs.declared.level_split.ZilqodurLevel.{ZilqodurLevel}
+use Rattle.capi.specs.declared.margin_split.ZilqodurMargin.{ZilqodurMargin}
 use Rattle.capi.specs.declared.states.ZilqodurEvent.{ZilqodurEvent}
 use Rattle.capi.specs.declared.states.ZilqodurStateAnswer.{ZilqodurStateAnswer}
 use Rattle.capi.specs.declared.quotes.ZilqodurQuote.{ZilqodurQuote}
@@ -114,6 +116,13 @@ encodeCapSums (refusal number place) = record { refusal = number; place = place;
 
 abbrev pub decodeCapSums : ZilqodurCapSums → Answer ℕ
 decodeCapSums s = valueOr (s .refusal) (s .place) (s .total)
+
+abbrev pub encodeMargin : Answer MarginValue → ZilqodurMargin
+encodeMargin (value v) = record { refusal = 0; place = 0; margin = v .margin; users = v .users }
+encodeMargin (refusal number place) = record { refusal = number; place = place; margin = 0; users = 0 }
+
+abbrev pub decodeMargin : ZilqodurMargin → Answer MarginValue
+decodeMargin s = valueOr (s .refusal) (s .place) (record { margin = s .margin; users = s .users })
 
 abbrev pub encodeLevel : LevelAnswer → ZilqodurLevel
 encodeLevel (split members) = record { refusal = 0; place = 0; shortfall = 0; members = members }

@@ -1,3 +1,4 @@
 mod Arcs
+mod BranchArc
 pub mod Range
 mod ShareRange

@@ -1,6 +1,7 @@
-// The checks of lists as they are handed in: a tree with its marks and without, caps, a proposal, an
+// The checks of lists as they are handed in: a tree with its marks and without, caps, a proposal, a branch's arc, an
 // output list.
 mod arc;
+mod branch;
 mod caps;
 mod mark;
 mod output;
@@ -8,6 +9,8 @@ mod plain;
 mod proposal;
 mod tree;
 
+pub use branch::check_branch_arc;
+pub use branch::check_branch_users;
 pub use caps::check_caps;
 pub use output::check_output;
 pub use plain::check_plain;

@@ -1,5 +1,6 @@
 pub mod OneToOne
 mod TreeAccepted
+mod BranchSplit
 mod MembersListed
 mod NamedSize
 mod ProposalAccepted

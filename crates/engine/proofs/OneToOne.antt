@@ -7,10 +7,12 @@ use Rattle.answers.specs.Needs.{NeedsValue}
 use Rattle.answers.specs.GroupCost.{GroupCostValue}
 use Rattle.answers.specs.Audit.{Verdict, found, none}
 use Rattle.answers.specs.Level.{LevelAnswer, split, refusal as notSplit}
+use Rattle.answers.specs.Margin.{MarginValue}
 use Rattle.answer_forms.specs.Checked.{checkOf}
 use Rattle.answer_forms.specs.declared.Checked.{Checked}
 use Rattle.answer_forms.specs.declared.Checked.the-variants.{Accepted, Refused as NotAccepted}
 use Rattle.engine.specs.Outcomes.{memberCountOf, needsOf, groupCostOf, totalOf, searchOf, capSumsOf, levelOf}
+use Rattle.engine.specs.Outcomes.{marginOf}
 use Rattle.engine.specs.declared.members.MemberCount.{MemberCount}
 use Rattle.engine.specs.declared.members.MemberCount.the-variants.{Members, Refused as NoMembers}
 use Rattle.engine.specs.declared.needs.NeedsFound.{NeedsFound}
@@ -25,6 +27,8 @@ use Rattle.engine.specs.declared.cap_sums.CapSumsFound.{CapSumsFound}
 use Rattle.engine.specs.declared.cap_sums.CapSumsFound.the-variants.{Total, Refused as NoTotal}
 use Rattle.engine.specs.declared.level_split.LevelSplit.{LevelSplit}
 use Rattle.engine.specs.declared.level_split.LevelSplit.the-variants.{Split, Refused as NoSplit}
+use Rattle.engine.specs.declared.margin_split.MarginSplit.{MarginSplit}
+use Rattle.engine.specs.declared.margin_split.MarginSplit.the-variants.{Split as Widest, Refused as NoMargin}
 
 read-back : {A B : Type 0} (of : A → B) (back : B → A) → ((a : A) → back (of a) ≡ a) → (a b : A) → of a ≡ of b → a ≡ b
 read-back of back is a b e = sym (is a) ∙ ap back e ∙ is b
@@ -118,3 +122,14 @@ level-is (NoSplit number place shortfall) = refl
 
 pub level-one-to-one : (a b : LevelSplit) → levelOf a ≡ levelOf b → a ≡ b
 level-one-to-one = read-back levelOf level-back level-is
+
+abbrev margin-back : Answer MarginValue → MarginSplit
+margin-back (value v) = Widest (v .margin) (v .users)
+margin-back (refusal number place) = NoMargin (record { number = number; place = place })
+
+margin-is : (a : MarginSplit) → margin-back (marginOf a) ≡ a
+margin-is (Widest margin users) = refl
+margin-is (NoMargin r) = refl
+
+pub margin-one-to-one : (a b : MarginSplit) → marginOf a ≡ marginOf b → a ≡ b
+margin-one-to-one = read-back marginOf margin-back margin-is

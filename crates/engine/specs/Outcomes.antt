@@ -5,6 +5,7 @@ use Rattle.answer_forms.specs.Answer.{Answer, value, refusal}
 use Rattle.answers.specs.Needs.{NeedsValue}
 use Rattle.answers.specs.GroupCost.{GroupCostValue}
 use Rattle.answers.specs.Audit.{Verdict, found, none}
+use Rattle.answers.specs.Margin.{MarginValue}
 use Rattle.answers.specs.Level.{LevelAnswer, split, refusal as notSplit}
 use Rattle.engine.specs.declared.members.MemberCount.{MemberCount}
 use Rattle.engine.specs.declared.members.MemberCount.the-variants.{Members, Refused as NoMembers}
@@ -20,6 +21,8 @@ use Rattle.engine.specs.declared.cap_sums.CapSumsFound.{CapSumsFound}
 use Rattle.engine.specs.declared.cap_sums.CapSumsFound.the-variants.{Total, Refused as NoTotal}
 use Rattle.engine.specs.declared.level_split.LevelSplit.{LevelSplit}
 use Rattle.engine.specs.declared.level_split.LevelSplit.the-variants.{Split, Refused as NoSplit}
+use Rattle.engine.specs.declared.margin_split.MarginSplit.{MarginSplit}
+use Rattle.engine.specs.declared.margin_split.MarginSplit.the-variants.{Split as Widest, Refused as NoMargin}
 
 abbrev pub memberCountOf : MemberCount → Answer ℕ
 memberCountOf (Members n) = value n
@@ -49,3 +52,7 @@ capSumsOf (NoTotal r) = refusal (r .number) (r .place)
 abbrev pub levelOf : LevelSplit → LevelAnswer
 levelOf (Split members) = split members
 levelOf (NoSplit number place shortfall) = notSplit number place shortfall
+
+abbrev pub marginOf : MarginSplit → Answer MarginValue
+marginOf (Widest margin users) = value (record { margin = margin; users = users })
+marginOf (NoMargin r) = refusal (r .number) (r .place)

@@ -57,7 +57,7 @@ module _ (n : Network) (rooted : Rooted n) where
   unfolding climb
   below-source k = refl
 
-  below-step : (k v : ℕ) → atOrBelow n k (suc v) ≡ (eqb k (suc v) || atOrBelow n k (n .parent (suc v)))
+  pub below-step : (k v : ℕ) → atOrBelow n k (suc v) ≡ (eqb k (suc v) || atOrBelow n k (n .parent (suc v)))
   unfolding climb
   below-step k v =
       ap (λ (b : Bool). eqb k (suc v) || b)

@@ -27,7 +27,7 @@ use Rattle.game.proofs.Bounds.{users-at, less-bound, need-le-bound}
 
 module _ (n : Network) where
   -- what an arc's users have of a weight of the members: its sum at or below the arc
-  users-sum : (x : ℕ → ℕ) → OfMembers n x → (k : ℕ) → group-sum n x (users n k) ≡ sumBelow n x k
+  pub users-sum : (x : ℕ → ℕ) → OfMembers n x → (k : ℕ) → group-sum n x (users n k) ≡ sumBelow n x k
   unfolding sumBelow
   users-sum x of-members k =
       sum-cong (n .arcs)

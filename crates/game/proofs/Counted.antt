@@ -31,7 +31,7 @@ everyone-pays-whole n free =
 
 module _ (t : Tree) where
   -- who uses an arc does not depend on the costs
-  counted-at : (k : ℕ) → In (length (t .parents)) k
+  pub counted-at : (k : ℕ) → In (length (t .parents)) k
       → ofArc (countedCosts t) k ≡ pick (used (network t) everyone k) (ofArc (t .costs) k)
   unfolding countedCosts used
   counted-at = of-list (length (t .parents)) (counted (networkOf (t .parents) (t .costs) (t .marks)))

@@ -20,7 +20,7 @@ mod Spare
 pub mod Core
 pub mod UserSums
 pub mod Bump
-mod Inward
+pub mod Inward
 mod Smallest
 mod Descent
 pub mod LevelRule
@@ -42,3 +42,12 @@ pub mod PathKeys
 pub mod LevelByKeys
 pub mod LevelCosts
 pub mod HeldBounds
+pub mod Raised
+pub mod LevelFree
+pub mod LevelBounds
+pub mod Branched
+pub mod Branch
+mod OwnCost
+mod MarginKept
+mod MarginBound
+pub mod Margin

@@ -22,7 +22,7 @@ module _ (n : Network) (l : List ℕ) where
   abbrev pub has : (ℕ → Bool) → ℕ
   has g = sum₀ (memberCount n) (λ j. pick (g j) (getD l j 0))
 
-  pays-pos : (g : ℕ → Bool) → pays n (map pos l) g ≡ pos (has g)
+  pub pays-pos : (g : ℕ → Bool) → pays n (map pos l) g ≡ pos (has g)
   unfolding pays
   pays-pos g =
       sum-pos-ℤ (memberCount n) (λ j. pickℤ (g j) (share (map pos l) j)) (λ j. pick (g j) (getD l j 0))

@@ -31,7 +31,7 @@ module _ (test : ℕ → Bool) where
   unfolding greatest
   greatest-no last e = rw (e, greatest)
 
-  greatest-le : (last : ℕ) → greatest test last ≤ last
+  pub greatest-le : (last : ℕ) → greatest test last ≤ last
   unfolding greatest
   greatest-le zero = omega arith
   greatest-le (suc last) =
@@ -40,7 +40,7 @@ module _ (test : ℕ → Bool) where
       (λ (e : test (suc last) ≡ false). omega (arith, greatest-no last e, greatest-le last))
       (both (test (suc last)))
 
-  greatest-passes : test 0 ≡ true → (last : ℕ) → test (greatest test last) ≡ true
+  pub greatest-passes : test 0 ≡ true → (last : ℕ) → test (greatest test last) ≡ true
   unfolding greatest
   greatest-passes start zero = start
   greatest-passes start (suc last) =
@@ -49,7 +49,7 @@ module _ (test : ℕ → Bool) where
       (λ (e : test (suc last) ≡ false). ap test (greatest-no last e) ∙ greatest-passes start last)
       (both (test (suc last)))
 
-  greatest-most : (last key : ℕ) → key ≤ last → test key ≡ true → key ≤ greatest test last
+  pub greatest-most : (last key : ℕ) → key ≤ last → test key ≡ true → key ≤ greatest test last
   greatest-most zero key h t = omega arith
   greatest-most (suc last) key h t =
       ⊎-elim

@@ -1,15 +1,19 @@
--- Sums over the members and over an arc's users, by vertex; an arc's number of users from those of its child arcs.
-use Prim.Native.Nat.{ℕ, _+_}
-use mathlib.Core.Path.{_≡_, sym, ap, _∙_, subst, fun-ext}
+-- Sums over the members and over an arc's users, by vertex; an arc's number of users from those of its child arcs, and
+-- one of its users.
+use Prim.Native.Nat.{ℕ, _+_, _<_}
+use mathlib.Core.Path.{_≡_, refl, sym, ap, _∙_, subst, fun-ext}
 use mathlib.Core.Bool.{true}
+use native.Mathlib.Omega.{arith}
+use borrow.Author.Tests.{ltb-true}
 use lib.ListN.{getD}
 use Rattle.basics.specs.Sum.{pick, sum, sum₀, size}
-use Rattle.game.specs.Network.{Network, atOrBelow, sumBelow, number, memberCount, members}
+use Rattle.game.specs.Network.{Network, atOrBelow, everyone, sumBelow, number, memberCount, members}
 use Rattle.game.specs.Core.{users}
 use Rattle.game.specs.ByArc.{userCount}
-use Rattle.basics.proofs.Bools.{pick-same, pick-yes}
-use Rattle.basics.proofs.Sums.{In, sum-cong}
+use Rattle.basics.proofs.Bools.{and-both, pick-same, pick-yes, pick-pos}
+use Rattle.basics.proofs.Sums.{In, sum-cong, sum-pos}
 use Rattle.game.proofs.Below.{Rooted, sum-below-children, sum-from-source}
+use Rattle.game.proofs.Groups.{UsedBy}
 use Rattle.game.proofs.Certificate.{children}
 use Rattle.game.proofs.Excess.{MembersEnd}
 use Rattle.game.proofs.Core.{users-by-vertex, own-sum}
@@ -38,10 +42,10 @@ module _ (n : Network) where
       users-by-vertex n (λ j. x (vertex j)) k
       ∙ sum-cong (n .arcs) (λ v i. ap (pick (atOrBelow n k v)) (at-number x v i))
 
-  abbrev ones : ℕ → ℕ
+  abbrev pub ones : ℕ → ℕ
   ones v = pick (n .member v) 1
 
-  users-count : (k : ℕ) → userCount n k ≡ sumBelow n ones k
+  pub users-count : (k : ℕ) → userCount n k ≡ sumBelow n ones k
   unfolding size
   users-count k = users-by-vertex n (λ j. 1) k
 
@@ -60,3 +64,17 @@ module _ (n : Network) where
 
     pub count-own : MembersEnd n → (v : ℕ) → In (n .arcs) v → n .member v ≡ true → userCount n v ≡ 1
     count-own ends v i m = users-count v ∙ own-sum n rooted ends ones v i m ∙ pick-yes 1 m
+
+  -- an arc with users has one
+  pub someone-uses : (k : ℕ) → 0 < userCount n k → UsedBy n everyone k
+  unfolding sumBelow
+  someone-uses k some =
+      let s = sum-pos (n .arcs) (λ v. pick (atOrBelow n k v) (ones v)) (omega (arith, users-count k)) in
+      let v = s .which in
+      let below = pick-pos (atOrBelow n k v) (ones v) (ltb-true 0 (pick (atOrBelow n k v) (ones v)) (s .passes)) in
+      record {
+        by = v;
+        within = s .within;
+        chosen = refl;
+        uses = and-both (pick-pos (n .member v) 1 (below .1) .0) (below .0);
+      }

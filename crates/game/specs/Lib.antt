@@ -8,3 +8,5 @@ pub mod Level
 pub mod LevelKeys
 pub mod ByArc
 pub mod Shapley
+pub mod Branch
+pub mod Margin

@@ -8,8 +8,10 @@ from rules import (
     Tree,
     WORDS,
     arc_needs,
+    arc_users,
     best_group,
     cap_sums,
+    check_branch,
     check_caps,
     check_group,
     check_output,
@@ -28,6 +30,7 @@ from rules import (
 from by_arc import by_arc_split
 from job import read_job
 from level import level_split
+from margin import margin_split
 from states import State, make_state, refusal_of
 from steps import first_state, outcomes
 from writer import job_bytes, job_length, write_job
@@ -114,6 +117,15 @@ def answer_cap_sums(tree, caps, out):
     return f"total {sum(caps)}"
 
 
+def answer_margin(tree, arc, out):
+    check_tree(tree)
+    check_branch(tree, arc)
+    count = len(arc_users(tree)[arc - 1])
+    check_output(out, count)
+    margin, out[:] = margin_split(tree, arc)
+    return f"margin {margin} users {count}"
+
+
 def answer_by_arc(tree, out):
     check_tree(tree)
     count = member_count(tree)
@@ -141,10 +153,11 @@ ENTRIES = {
     "byarc": answer_by_arc,
     "deadends": answer_dead_ends,
     "capsums": answer_cap_sums,
+    "margin": answer_margin,
 }
 
 # the commands whose last field is the length of an output list
-WRITING = {"members", "needs", "level", "byarc", "deadends", "capsums"}
+WRITING = {"members", "needs", "level", "byarc", "deadends", "capsums", "margin"}
 
 
 def shown(field):

@@ -17,8 +17,27 @@ def pruned(tree):
 
 
 def as_before(line, kept):
-    """The line with the old number of refusal 9's arc."""
-    return re.sub(r"(?<=^refused 9 at )\d+", lambda found: str(kept[int(found[0]) - 1]), line)
+    """The line with the old number of the arc of refusals 9, 25 and 26."""
+    return re.sub(r"^(refused (?:9|25|26) at )(\d+)", lambda found: f"{found[1]}{kept[int(found[2]) - 1]}", line)
+
+
+def alone(tree, users):
+    """The tree in which nobody but these members lives."""
+    marks = [0] * len(tree.marks)
+    for j, vertex in enumerate(member_vertices(tree)):
+        marks[vertex - 1] = int(j in users)
+    return tree._replace(marks=marks)
+
+
+def check_margin(tree, arc, length):
+    """Compares the margin with that on the arcs with users, and on those of the arc's users alone."""
+    users = arc_users(tree)[arc - 1] if 1 <= arc <= len(tree.parents) else []
+    if not users:
+        return
+    for small, kept in (pruned(tree), pruned(alone(tree, users))):
+        if small != tree:
+            line = answer(("margin", small, kept.index(arc) + 1, length))
+            assert as_before(line, kept) == answer(("margin", tree, arc, length)), (tree, arc, length)
 
 
 def check_pruned(case):
@@ -28,6 +47,8 @@ def check_pruned(case):
         check_tree(tree)
     except Refusal:
         return
+    if command == "margin":
+        check_margin(tree, *rest)
     small, kept = pruned(tree)
     if small == tree:
         return

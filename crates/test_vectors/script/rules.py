@@ -95,6 +95,14 @@ def check_caps(count, caps):
     check_entries(count, caps, 0, MOST_CAP)
 
 
+def check_branch(tree, arc):
+    """25 unless it is an arc from the source, then 26 where it has fewer than two users."""
+    if not 1 <= arc <= len(tree.parents) or tree.parents[arc - 1] != 0:
+        raise Refusal(25, arc)
+    if len(arc_users(tree)[arc - 1]) < 2:
+        raise Refusal(26, arc)
+
+
 def check_output(out, length):
     """8 unless the output list has exactly this length."""
     if len(out) != length:

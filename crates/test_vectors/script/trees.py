@@ -1,13 +1,25 @@
 """The cases of the tree, members, dead ends, needs and group costs."""
 import random
 
-from rules import MOST_COST, Tree, all_marked, member_count, words_of
+from rules import MOST_COST, Refusal, Tree, all_marked, arc_users, check_tree, member_count, words_of
 from networks import T, T_SPARE, U, W, all_groups, chain, random_group, random_proposal, random_tree, star
 
 
 def proposed(tree, proposal):
     """A case of each command that takes a tree and a proposal."""
     return [("total", tree, proposal), ("search", tree, proposal)]
+
+
+def margin_of(tree, arc):
+    """At an arc, with an output list as long as it has users: an empty one where there is no such arc, or no tree."""
+    length = 0
+    try:
+        check_tree(tree)
+        if 1 <= arc <= len(tree.parents):
+            length = len(arc_users(tree)[arc - 1])
+    except Refusal:
+        pass
+    return "margin", tree, arc, length
 
 
 def every_entry(tree, words=words_of([0])):
@@ -27,6 +39,7 @@ def every_entry(tree, words=words_of([0])):
         ("byarc", tree, count),
         ("deadends", tree.parents, tree.costs, arcs),
         ("capsums", tree, list(range(1, count + 1)), arcs),
+        margin_of(tree, 1),
     ]
 
 

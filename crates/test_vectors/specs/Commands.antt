@@ -1,25 +1,27 @@
 -- The commands by their names, and the fields of their lines.
 use Prim.Native.Nat.{ℕ}
 use mathlib.Core.Path.{_≡_}
-use mathlib.Core.List.{List, [], _∷_}
+use mathlib.Core.List.{List, [], _∷_, _++_}
 use lib.ListN.{getD, length}
 use Rattle.test_lines.specs.Fields.{First, fieldsOf}
 use Rattle.text.specs.Ascii.{ascii}
 use Rattle.test_vectors.specs.declared.command.Command.{Command}
 use Rattle.test_vectors.specs.declared.command.Command.the-variants.{Check, Count, Members, Needs, Group, Total}
 use Rattle.test_vectors.specs.declared.command.Command.the-variants.{Search, Shares, Level, Caps, ByArc, DeadEnds}
-use Rattle.test_vectors.specs.declared.command.Command.the-variants.{CapSums, Job, Write, State, Events, Unknown}
+use Rattle.test_vectors.specs.declared.command.Command.the-variants.{CapSums, Margin, Job, Write, State}
+use Rattle.test_vectors.specs.declared.command.Command.the-variants.{Events, Unknown}
 
 -- their names, with a space between two
 abbrev pub names : List ℕ
 names =
-    ascii "check count members needs group total search shares level caps byarc deadends capsums job write state events"
+    ascii "check count members needs group total search shares level caps byarc deadends capsums margin "
+    ++ ascii "job write state events"
 
 -- the commands, in the order of their names
 abbrev pub commands : List Command
 commands =
     Check ∷ Count ∷ Members ∷ Needs ∷ Group ∷ Total ∷ Search ∷ Shares ∷ Level ∷ Caps ∷ ByArc ∷ DeadEnds ∷ CapSums
-    ∷ Job ∷ Write ∷ State ∷ Events ∷ []
+    ∷ Margin ∷ Job ∷ Write ∷ State ∷ Events ∷ []
 
 -- how many fields a command's line has; none is right for an unknown command
 abbrev pub fieldCount : Command → ℕ
@@ -36,6 +38,7 @@ fieldCount Caps = 3
 fieldCount ByArc = 5
 fieldCount DeadEnds = 4
 fieldCount CapSums = 6
+fieldCount Margin = 6
 fieldCount Job = 3
 fieldCount Write = 7
 fieldCount State = 5

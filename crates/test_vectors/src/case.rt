@@ -150,6 +150,27 @@ fn with_caps(
 }
 
 // As list_members.
+fn split_margin(parents: &[u16], costs: &[u32], marks: &[u16], arc: usize, out: &mut [u64]) {
+    print::margin_split(engine::split_margin(parents, costs, marks, arc, out));
+    test_lines::print::list(out);
+}
+
+// As members; the field before the length has the arc, any number of 64 bits.
+fn margin(parents: &[u16], costs: &[u32], marks: &[u16], arc: &[u8], length: &[u8]) {
+    let at = number::up_to(arc, u64::MAX);
+    let wanted = number::up_to(length, MOST as u64);
+    if !at.readable {
+        return print::bad_case();
+    }
+    if !wanted.readable {
+        return print::bad_case();
+    }
+    let n = wanted.value as usize;
+    let mut out = [9u64; MOST];
+    split_margin(parents, costs, marks, at.value as usize, &mut out[0..n]);
+}
+
+// As list_members.
 fn mark_dead_ends(parents: &[u16], costs: &[u32], out: &mut [u16])
     requires { ⌜ length (now out) ≤ MOST ⌝ }
 {
@@ -188,6 +209,7 @@ fn on_tree(
         Command::Level => with_caps(c, parents, costs, marks, after_tree, last),
         Command::ByArc => by_arc(parents, costs, marks, after_tree),
         Command::CapSums => with_caps(c, parents, costs, marks, after_tree, last),
+        Command::Margin => margin(parents, costs, marks, after_tree, last),
         Command::State => state_case::run(parents, costs, marks, after_tree),
         _ => print::bad_case(),
     }

@@ -17,6 +17,7 @@ pub enum Command {
     ByArc,
     DeadEnds,
     CapSums,
+    Margin,
     Job,
     Write,
     State,
@@ -28,8 +29,9 @@ pub fn named(name: &[u8]) -> Command
     ensures { λ r. ⌜ Named (now (name .entry)) r ⌝ }
 {
     match field::find(
-        b"check count members needs group total search shares level caps byarc deadends capsums job write state events",
-        17,
+        b"check count members needs group total search shares level caps byarc deadends capsums margin \
+        job write state events",
+        18,
         name,
     ) {
         0 => Command::Check,
@@ -45,10 +47,11 @@ pub fn named(name: &[u8]) -> Command
         10 => Command::ByArc,
         11 => Command::DeadEnds,
         12 => Command::CapSums,
-        13 => Command::Job,
-        14 => Command::Write,
-        15 => Command::State,
-        16 => Command::Events,
+        13 => Command::Margin,
+        14 => Command::Job,
+        15 => Command::Write,
+        16 => Command::State,
+        17 => Command::Events,
         _ => Command::Unknown,
     }
 }
@@ -71,6 +74,7 @@ pub fn fields(c: Command) -> usize
         Command::ByArc => 5,
         Command::DeadEnds => 4,
         Command::CapSums => 6,
+        Command::Margin => 6,
         Command::Job => 3,
         Command::Write => 7,
         Command::State => 5,

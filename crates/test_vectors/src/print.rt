@@ -4,6 +4,7 @@ use engine::Checked;
 use engine::GroupCost;
 use engine::GroupFound;
 use engine::LevelSplit;
+use engine::MarginSplit;
 use engine::MemberCount;
 use engine::NeedsFound;
 use engine::Refusal;
@@ -111,6 +112,16 @@ pub fn level_split(s: LevelSplit) {
             refusal(Refusal { number, place });
             labelled(b" short ", shortfall);
         }
+    }
+}
+
+pub fn margin_split(s: MarginSplit) {
+    match s {
+        MarginSplit::Split { margin, users } => {
+            labelled(b"margin ", margin);
+            labelled(b" users ", users as u64);
+        }
+        MarginSplit::Refused(r) => refusal(r),
     }
 }
 

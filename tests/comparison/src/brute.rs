@@ -1,5 +1,5 @@
 //! The definitions of docs/SPECIFICATION.md word for word, for small networks: every group,
-//! every arc of every path, every unit.
+//! every arc of every path, every unit, every split.
 
 use crate::reference::Tree;
 
@@ -158,4 +158,107 @@ pub fn by_arc(tree: &Tree) -> Vec<u64> {
         }
     }
     shares
+}
+
+/// The costs of the branch arcs that only a group of the branch's users uses,
+/// the group being the place in the list: bit i is the branch's user i.
+pub fn own_costs(tree: &Tree, branch: usize) -> Vec<u64> {
+    let all = users(tree, branch);
+    let bits = |arc: usize| {
+        let uses = (0..all.len()).filter(|&i| is_user(tree, arc, all[i]));
+        uses.fold(0, |bits, i| bits | 1 << i)
+    };
+    let arcs = (1..=tree.arcs()).filter(|&arc| on_path(tree, branch, arc));
+    let arcs: Vec<(usize, u64)> = arcs.map(|arc| (bits(arc), cost(tree, arc))).collect();
+    let own = |group: usize| {
+        let only = arcs
+            .iter()
+            .filter(|(bits, _)| *bits != 0 && bits & !group == 0);
+        only.map(|(_, cost)| cost).sum()
+    };
+    (0..1 << all.len()).map(own).collect()
+}
+
+/// The least of what a proper nonempty group pays less its own costs.
+pub fn least_margin(own: &[u64], shares: &[u64]) -> i64 {
+    let pays = |group: usize| {
+        let inside = (0..shares.len()).filter(|i| group >> i & 1 == 1);
+        inside.map(|i| shares[i]).sum::<u64>()
+    };
+    let proper = 1..own.len() - 1;
+    proper
+        .map(|group| pays(group) as i64 - own[group] as i64)
+        .min()
+        .unwrap()
+}
+
+/// The greatest sum, over all ways to part the users into proper nonempty
+/// groups, of the groups' own costs with the margin added to each. Where it is
+/// above the need, no split gives all groups the margin.
+pub fn asked(own: &[u64], margin: u64) -> u64 {
+    let all = own.len() - 1;
+    let mut most = vec![0; own.len()];
+    for rest in 1..own.len() {
+        let parts = (1..=rest).filter(|&part| part & !rest == 0 && part != all);
+        let asked = parts.map(|part| own[part] + margin + most[rest & !part]);
+        most[rest] = asked.max().unwrap();
+    }
+    most[all]
+}
+
+/// All lists of so many whole numbers that add up to the total.
+pub fn lists(total: u64, length: usize) -> Vec<Vec<u64>> {
+    if length == 1 {
+        return vec![vec![total]];
+    }
+    let with = |last| {
+        let rest = lists(total - last, length - 1);
+        rest.into_iter()
+            .map(move |list| [list, vec![last]].concat())
+    };
+    (0..=total).flat_map(with).collect()
+}
+
+/// The greatest least margin that a whole split of the branch's need has. A
+/// share below 0 is a margin below 0, so that the lists without one are enough.
+pub fn widest_margin(own: &[u64], need: u64) -> i64 {
+    let users = own.len().ilog2() as usize;
+    let splits = lists(need, users).into_iter();
+    splits
+        .map(|shares| least_margin(own, &shares))
+        .max()
+        .unwrap()
+}
+
+/// An arc's raised need, and the sum of those of its child arcs.
+fn raised_need(tree: &Tree, branch: usize, needs: &[u64], margin: u64, arc: usize) -> (u64, u64) {
+    let count = users(tree, arc).len();
+    if count == 0 {
+        return (0, 0);
+    }
+    let children = (1..=tree.arcs()).filter(|&child| tree.parent[child] == arc);
+    let sum = children
+        .map(|child| raised_need(tree, branch, needs, margin, child).0)
+        .sum();
+    let need = needs[arc - 1];
+    let all = count == users(tree, branch).len();
+    let least = if all { need } else { need + margin };
+    (least.max(sum), sum)
+}
+
+/// The split of a branch at a margin, unit by unit.
+pub fn margin_split(tree: &Tree, branch: usize, margin: u64) -> Vec<u64> {
+    let needs = needs(tree);
+    let mut shares = vec![0; tree.members.len()];
+    let arcs = (1..=tree.arcs()).rev();
+    for arc in arcs.filter(|&arc| on_path(tree, branch, arc)) {
+        let users = users(tree, arc);
+        let (raised, sum) = raised_need(tree, branch, &needs, margin, arc);
+        for _ in 0..raised - sum {
+            let &member = users.iter().min_by_key(|&&j| (shares[j], j)).unwrap();
+            shares[member] += 1;
+        }
+    }
+    let users = users(tree, branch);
+    users.into_iter().map(|j| shares[j]).collect()
 }

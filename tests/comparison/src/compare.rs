@@ -3,6 +3,7 @@
 
 use crate::ffi::{self, *};
 use crate::lent::Lent;
+use crate::margin;
 use crate::reference::{self, Answer, Refusal, Tree};
 use crate::tally::Tally;
 
@@ -285,5 +286,29 @@ impl Network {
         let expected = members(answer.as_ref().map(Vec::len).map_err(|&r| r));
         let lists = self.kept(&p, &c, &m) && lent.holds(&written(out, answer));
         tally.case("split_by_arc", expected.refusal, [given, expected], lists);
+    }
+
+    /// Answers what is expected.
+    pub fn split_margin(&self, tally: &mut Tally, arc: usize, out: &[u64]) -> ZilqodurMargin {
+        let answer = margin::split_margin(self.tree(), arc, out.len());
+        let (p, c, m) = self.lend();
+        let mut lent = Lent::new(out);
+        let given = ffi::split_margin(p.list(), c.list(), m.list(), arc, lent.list_mut());
+        let expected = match &answer {
+            Ok((margin, shares)) => ZilqodurMargin {
+                margin: *margin,
+                users: shares.len(),
+                ..Default::default()
+            },
+            Err(r) => ZilqodurMargin {
+                refusal: r.number,
+                place: r.place,
+                ..Default::default()
+            },
+        };
+        let shares = answer.map(|(_, shares)| shares);
+        let lists = self.kept(&p, &c, &m) && lent.holds(&written(out, shares));
+        tally.case("split_margin", expected.refusal, [given, expected], lists);
+        expected
     }
 }

@@ -76,6 +76,15 @@ pub struct ZilqodurLevel {
 }
 
 #[repr(C)]
+#[derive(Clone, Copy, Debug, Default, PartialEq)]
+pub struct ZilqodurMargin {
+    pub refusal: u32,
+    pub place: usize,
+    pub margin: u64,
+    pub users: usize,
+}
+
+#[repr(C)]
 #[derive(Clone, Copy, Debug, PartialEq)]
 pub struct ZilqodurState {
     pub arcs: usize,
@@ -267,6 +276,17 @@ unsafe extern "C" {
         out: *mut u64,
         out_count: usize,
     ) -> ZilqodurMembers;
+    fn zilqodur_split_margin(
+        parents: *const u16,
+        parents_count: usize,
+        costs: *const u32,
+        costs_count: usize,
+        marks: *const u16,
+        marks_count: usize,
+        arc: usize,
+        out: *mut u64,
+        out_count: usize,
+    ) -> ZilqodurMargin;
     fn zilqodur_make_state(
         parents: *const u16,
         parents_count: usize,
@@ -525,6 +545,28 @@ pub fn split_by_arc(
             costs.len(),
             marks.as_ptr(),
             marks.len(),
+            out.as_mut_ptr(),
+            out.len(),
+        )
+    }
+}
+
+pub fn split_margin(
+    parents: &[u16],
+    costs: &[u32],
+    marks: &[u16],
+    arc: usize,
+    out: &mut [u64],
+) -> ZilqodurMargin {
+    unsafe {
+        zilqodur_split_margin(
+            parents.as_ptr(),
+            parents.len(),
+            costs.as_ptr(),
+            costs.len(),
+            marks.as_ptr(),
+            marks.len(),
+            arc,
             out.as_mut_ptr(),
             out.len(),
         )

@@ -193,6 +193,43 @@ pub fn length(rng: &mut Rng, right: usize) -> usize {
     }
 }
 
+/// The tree with all of it below its first arc.
+pub fn one_branch(n: &Network) -> Network {
+    let below = n.parents.iter().skip(1).map(|&parent| parent.max(1));
+    let parents: Vec<u16> = n.parents[..1].iter().copied().chain(below).collect();
+    let ends = dead_ends(&parents);
+    let mut marks: Vec<u16> = n.marks.iter().zip(ends).map(|(&a, b)| a.min(b)).collect();
+    if !marks.contains(&1) {
+        *marks.last_mut().unwrap() = 1;
+    }
+    Network {
+        parents,
+        costs: n.costs.clone(),
+        marks,
+    }
+}
+
+/// A number for a branch's arc, most often that of an arc from the source with
+/// two users or more.
+pub fn branch(rng: &mut Rng, tree: &Tree) -> usize {
+    let arcs = tree.arcs();
+    let from_source = || (1..=arcs).filter(|&arc| tree.parent[arc] == 0);
+    let good: Vec<usize> = from_source()
+        .filter(|&arc| tree.users[arc].len() > 1)
+        .collect();
+    let any = rng.pick(&from_source().collect::<Vec<_>>());
+    let huge = rng.next() as usize;
+    match rng.below(10) {
+        0 => any,
+        1 => 1 + rng.below(arcs),
+        2 => rng.pick(&[0, arcs + 1, ARCS + 1, 65_535, huge, usize::MAX]),
+        // The low bits are the number of an arc from the source.
+        3 => any + rng.pick(&[1 << 10, 1 << 16, 1 << 32, 1 << 63]),
+        _ if good.is_empty() => any,
+        _ => rng.pick(&good),
+    }
+}
+
 /// A group of members, now and then with bits at or beyond their number.
 pub fn group(rng: &mut Rng, members: usize) -> [u64; 16] {
     let mut words = [0u64; 16];

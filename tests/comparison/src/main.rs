@@ -12,6 +12,7 @@ mod generate_job;
 mod generate_state;
 mod job;
 mod lent;
+mod margin;
 mod rare;
 mod reference;
 mod report;
@@ -23,6 +24,7 @@ mod tally;
 use compare::Network;
 use compare_job::JobLists;
 use job::Job;
+use margin::Branch;
 use reference::{Tree, ARCS};
 use rng::Rng;
 use std::sync::atomic::Ordering;
@@ -102,17 +104,24 @@ fn compare_round(tally: &mut Tally, rng: &mut Rng, arcs: usize) {
     compare_state::round(tally, state_rng, &network);
     compare_tree(tally, rng, &network, &tree);
     compare_lists(tally, rng, &network, &tree, 3);
+    compare_branches(tally, rng, &network, &tree, 3);
+    let branch = generate::one_branch(&network);
+    let branch_tree = branch.tree().expect("generated trees are accepted");
+    compare_branches(tally, rng, &branch, &branch_tree, 2);
     let mut job = generate_job::valid(rng, &network.parents, &network.costs);
     let length = job.write().len();
     compare_jobs(tally, rng, &job);
     compare_writer(tally, rng, &job, length);
     compare_definitions(tally, rng, &tree);
+    compare_margins(tally, &tree);
+    compare_margins(tally, &branch_tree);
     generate_job::damage_lists(rng, &mut job);
     compare_writer(tally, rng, &job, length);
     generate::damage_tree(rng, &mut network);
     rare::note_faults(tally, &network.faults());
     compare_tree(tally, rng, &network, &tree);
     compare_lists(tally, rng, &network, &tree, 1);
+    compare_branches(tally, rng, &network, &tree, 1);
     compare_state::round(tally, state_rng, &network);
     job.fillers.resize(network.parents.len(), 0);
     (job.parents, job.costs) = (network.parents, network.costs);
@@ -163,6 +172,26 @@ fn compare_lists(tally: &mut Tally, rng: &mut Rng, network: &Network, tree: &Tre
     let count = rng.pick(&[0, 1, 1_023, 1_024, 65_536 + members, usize::MAX]);
     compare::check_caps(tally, count, &vec![0; members]);
     compare::check_proposal(tally, count, &vec![0; members]);
+}
+
+/// The margin in branches of the tree, and on numbers that are no branch's.
+fn compare_branches(
+    tally: &mut Tally,
+    rng: &mut Rng,
+    network: &Network,
+    tree: &Tree,
+    times: usize,
+) {
+    for _ in 0..times {
+        let arc = generate::branch(rng, tree);
+        let users = tree.users.get(arc).map_or(0, Vec::len);
+        let length = generate::length(rng, users);
+        let expected = network.split_margin(tally, arc, &filled(rng, length, |n| n));
+        match network.tree() {
+            Ok(tree) => rare::note_branch(tally, &tree, (arc, length), expected.margin),
+            Err(r) => rare::note_branch_refused(tally, r, &network.parents, arc),
+        }
+    }
 }
 
 /// The entries that take a proposal.
@@ -312,4 +341,46 @@ fn compare_judgement(tally: &mut Tally, tree: &Tree, costs: &[u64], proposal: &[
         "definition of the group search",
         greatest == amount && groups == [smallest],
     );
+}
+
+/// The branches with two users or more, where the network is small.
+fn compare_margins(tally: &mut Tally, tree: &Tree) {
+    if tree.arcs() > 40 {
+        return;
+    }
+    let from_source = (1..=tree.arcs()).filter(|&arc| tree.parent[arc] == 0);
+    for arc in from_source.filter(|&arc| (2..=10).contains(&tree.users[arc].len())) {
+        compare_margin(tally, tree, arc);
+    }
+}
+
+/// The margin and the split of a branch: no group has less, and no split gives
+/// all groups more.
+fn compare_margin(tally: &mut Tally, tree: &Tree, arc: usize) {
+    let branch = Branch::new(tree, arc);
+    let (margin, need) = (branch.widest(), branch.need());
+    let shares = branch.shares(margin);
+    let own = brute::own_costs(tree, arc);
+    let adds_up = shares.iter().sum::<u64>() == need;
+    let mut case = |name, agree| tally.case(name, 0, [agree, true], true);
+    case(
+        "definition of the margin",
+        adds_up && brute::least_margin(&own, &shares) == margin as i64,
+    );
+    case(
+        "definition of the widest margin",
+        brute::asked(&own, margin + 1) > need,
+    );
+    if (need + 1).saturating_pow(shares.len() as u32 - 1) <= 5_000 {
+        case(
+            "definition of the margin over all splits",
+            brute::widest_margin(&own, need) == margin as i64,
+        );
+    }
+    if need <= 2_000 {
+        case(
+            "definition of the margin split",
+            brute::margin_split(tree, arc, margin) == shares,
+        );
+    }
 }

@@ -1,10 +1,12 @@
 //! The cases that a run of all rounds is to meet: every refusal of every
 //! entry, faults that stand in one tree or one job, trees with spare plots,
 //! leftover units that tallies decide over, totals of every kind with and
-//! without a group, events of every kind, and quotes of every number.
+//! without a group, branches and numbers that are none's, events of every kind,
+//! and quotes of every number.
 
 use crate::ffi::ZilqodurEvent;
 use crate::job::Fault;
+use crate::margin::{self, Branch};
 use crate::reference::{Refusal, Tree, ARCS, COST};
 use crate::state::EVENTS;
 use crate::tally::Tally;
@@ -13,7 +15,7 @@ const TREE: [u32; 7] = [1, 2, 3, 4, 16, 17, 18];
 
 /// The refusals of each entry, with whether it has those of a tree too.
 #[rustfmt::skip]
-const REFUSALS: [(&str, bool, &[u32]); 20] = [
+const REFUSALS: [(&str, bool, &[u32]); 21] = [
     ("check_tree", true, &[]),
     ("check_caps", false, &[6, 7]),
     ("check_proposal", false, &[6, 7]),
@@ -27,6 +29,7 @@ const REFUSALS: [(&str, bool, &[u32]); 20] = [
     ("list_cap_sums", true, &[6, 7, 8]),
     ("split_level", true, &[6, 7, 8, 9]),
     ("split_by_arc", true, &[8]),
+    ("split_margin", true, &[25, 26, 8]),
     ("make_state", true, &[]),
     ("ask", false, &[1, 3, 4, 16, 17, 18, 21, 22]),
     ("commit", false, &[23, 24, 1, 3, 4, 16, 17, 18, 21, 22]),
@@ -74,6 +77,22 @@ const TIE: &str = "a leftover unit by number, the tallies being equal and above 
 const PAST: &str = "a leftover unit past a lower number";
 const ONE_EACH: &str = "an arc's leftover units to users with tallies more than 1 apart";
 const MANY: &str = "a tally above 255";
+
+/// The first two faults of a branch's number and list. Those of a tree are to be
+/// met before 25 too.
+const OF_BRANCH: [(u32, u32); 3] = [(25, 26), (25, 8), (26, 8)];
+
+/// The bits of a number above those of an arc from the source.
+const ABOVE: [u32; 4] = [10, 16, 32, 63];
+
+const NOBODY: &str = "26 on an arc without users";
+const ONE_USER: &str = "26 on an arc with one user";
+const NO_MARGIN: &str = "a margin of 0 on a need above 0";
+const WIDE: &str = "a margin beyond 32 bits";
+const RISEN: &str = "a raised need that is the sum below, at an arc that not all use";
+const RISEN_RUN: &str = "a raised need that is the sum below, at an arc that all use";
+const SPARE_BELOW: &str = "an arc without users in a branch";
+const OTHERS: &str = "users of a branch with other members' numbers between theirs";
 
 const ARRIVED: &str = "an arrival";
 const LEFT: &str = "a departure";
@@ -253,6 +272,58 @@ fn note_leftovers(tally: &mut Tally, tree: &Tree) {
     note(tally, MANY, tallies.iter().any(|&count| count > 255));
 }
 
+fn branch_meeting(first: u32, second: u32) -> String {
+    format!("{first} before {second} of a branch")
+}
+
+fn above(bit: u32) -> String {
+    format!("25 on the number of an arc from the source with bit {bit} besides")
+}
+
+/// Notes a tree's refusal on a number that is no arc's from the source.
+pub fn note_branch_refused(tally: &mut Tally, of_tree: Refusal, parents: &[u16], arc: usize) {
+    if arc == 0 || parents.get(arc - 1) != Some(&0) {
+        tally.met.insert(branch_meeting(of_tree.number, 25));
+    }
+}
+
+/// Notes the number of a branch's arc on an accepted tree with the length of the
+/// list, and what is rare about the branch and its margin.
+pub fn note_branch(tally: &mut Tally, tree: &Tree, (arc, length): (usize, usize), margin: u64) {
+    let faults = margin::faults(tree, arc, length);
+    if let [a, b, ..] = faults[..] {
+        tally.met.insert(branch_meeting(a.number, b.number));
+    }
+    match faults.first().map(|fault| fault.number) {
+        None => note_margin(tally, tree, arc, margin),
+        Some(25) => {
+            let less = |bit: u32| arc.saturating_sub(1 << bit);
+            let is_branch = |arc: usize| tree.parent.get(arc) == Some(&0) && arc > 0;
+            for bit in ABOVE.into_iter().filter(|&bit| is_branch(less(bit))) {
+                tally.met.insert(above(bit));
+            }
+        }
+        Some(26) => {
+            note(tally, NOBODY, tree.users[arc].is_empty());
+            note(tally, ONE_USER, !tree.users[arc].is_empty());
+        }
+        Some(_) => (),
+    }
+}
+
+fn note_margin(tally: &mut Tally, tree: &Tree, arc: usize, margin: u64) {
+    let branch = Branch::new(tree, arc);
+    let [partial, run] = branch.risen(margin);
+    note(tally, NO_MARGIN, margin == 0 && branch.need() > 0);
+    note(tally, WIDE, margin > u64::from(u32::MAX));
+    note(tally, RISEN, partial);
+    note(tally, RISEN_RUN, run);
+    note(tally, SPARE_BELOW, branch.spare);
+    let users = branch.users();
+    let range = users[users.len() - 1] - users[0] + 1;
+    note(tally, OTHERS, range > users.len());
+}
+
 fn judged(by: &str, total: &str, group: &str) -> String {
     format!("total {total}, group of {group}, by {by}")
 }
@@ -308,6 +379,11 @@ pub fn unmet(tally: &Tally) -> Vec<String> {
     let leftovers = [TIE, PAST, ONE_EACH, MANY].map(String::from);
     let by = |by| PROPOSALS.map(|(total, group)| judged(by, total, group));
     let proposals = [ARCHIVE, DEFINITION].into_iter().flat_map(by);
+    let of_branch = OF_BRANCH.map(|(a, b)| branch_meeting(a, b)).into_iter();
+    let of_branch = of_branch.chain(TREE.map(|number| branch_meeting(number, 25)));
+    let branches = [NOBODY, ONE_USER, NO_MARGIN, WIDE, RISEN, RISEN_RUN];
+    let branches = branches.into_iter().chain([SPARE_BELOW, OTHERS]);
+    let branches = branches.map(String::from).chain(ABOVE.map(above));
     let reports = AUDITS.map(reported);
     let with = |second| OF_STATE.map(|first| state_meeting(first, second));
     let states = OF_EVENT.into_iter().flat_map(with);
@@ -318,6 +394,7 @@ pub fn unmet(tally: &Tally) -> Vec<String> {
     let events = events.chain(quotes).map(String::from);
     let rare = meetings.chain(apart).chain(jobs).chain(trees);
     let rare = rare.chain(leftovers).chain(proposals).chain(reports);
+    let rare = rare.chain(of_branch).chain(branches);
     let rare = rare.chain(states).chain(events).chain(quote_meetings());
     unmet.extend(rare.filter(|case| !tally.met.contains(case)));
     unmet

@@ -254,7 +254,7 @@ impl Tree {
 
 /// Gives the units to the users: all up to the greatest level that the units
 /// pay for, then one more to the lowest-numbered users at that level.
-fn raise(shares: &mut [u64], users: &[usize], caps: &[u64], units: u64) {
+pub fn raise(shares: &mut [u64], users: &[usize], caps: &[u64], units: u64) {
     let taken = |level: u64| -> u64 {
         let rise = |&j: &usize| level.min(caps[j]).saturating_sub(shares[j]);
         users.iter().map(rise).sum()

@@ -6,6 +6,7 @@ use crate::compare_job;
 use crate::compare_state;
 use crate::ffi::{ZilqodurEvent, ZilqodurQuote};
 use crate::job::{self, Job};
+use crate::margin;
 use crate::reference::{self, refuse, Answer, Refusal, AMOUNT};
 use crate::report;
 use crate::state::{self, Quote, State, EVENTS};
@@ -91,6 +92,20 @@ fn by_arc(tally: &mut Tally, n: &Network, expected: &[u64]) {
     let found = reference::split_by_arc(n.tree(), expected.len());
     named(tally, found, Ok(expected.to_vec()));
     n.split_by_arc(tally, &vec![77; expected.len()]);
+}
+
+/// The margin and the shares, written to a list of so many entries.
+fn branch(
+    tally: &mut Tally,
+    n: &Network,
+    arc: usize,
+    room: usize,
+    expected: Answer<(u64, &[u64])>,
+) {
+    let found = margin::split_margin(n.tree(), arc, room);
+    let expected = expected.map(|(margin, shares)| (margin, shares.to_vec()));
+    named(tally, found, expected);
+    n.split_margin(tally, arc, &vec![77; room]);
 }
 
 /// The shares of the state, which is answered.
@@ -196,11 +211,28 @@ pub fn compare(tally: &mut Tally) {
     by_arc(tally, &x, &[1, 1]);
     let w = network(&[0, 1, 1, 0], &[10, 1, 1, 8], &[0, 1, 1, 1]);
     proposal(tally, &w, &[7, 7, 6], (0, 2, &[0, 1]));
+    branches(tally, &t);
     spare(tally);
     limits(tally, &t);
     marks(tally);
     events(tally, &t);
     sample_job(tally, t);
+}
+
+/// T; then a tree in which all use arcs 1 and 2, and in which the raised need of
+/// arc 2 is the sum over its child arcs.
+fn branches(tally: &mut Tally, t: &Network) {
+    branch(tally, t, 1, 2, Ok((3, &[4, 8])));
+    branch(tally, t, 1, 3, refuse(8, 0));
+    for arc in [0, 2, 3, 5, 65_537, usize::MAX] {
+        branch(tally, t, arc, 2, refuse(25, arc));
+    }
+    branch(tally, t, 4, 1, refuse(26, 4));
+    let marks = [0, 0, 1, 0, 1, 1];
+    let run = network(&[0, 1, 2, 2, 4, 2], &[2, 5, 1, 2, 1, 3], &marks);
+    branch(tally, &run, 1, 3, Ok((2, &[4, 5, 5])));
+    let refused = t_with(&[0, 0, 0, 0]);
+    branch(tally, &refused, 0, 0, refuse(18, 0));
 }
 
 /// T with nobody at vertex 3.
@@ -216,6 +248,7 @@ fn spare(tally: &mut Tally) {
     cap_sums(tally, &t, &[3, 4], 7, &[3, 3, 0, 4]);
     level(tally, &t, &[100, 100], Ok(vec![7, 4]));
     by_arc(tally, &t, &[7, 4]);
+    branch(tally, &t, 1, 1, refuse(26, 1));
 }
 
 fn limits(tally: &mut Tally, t: &Network) {

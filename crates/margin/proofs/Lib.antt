@@ -1,0 +1,5 @@
+mod BranchPass
+mod Given
+mod RaisePass
+mod Between
+mod AtRaised
