@@ -308,7 +308,8 @@ PARTS = [
     large_quotes,
 ]
 
-MOST_INPUT = 6 << 20
+# the program's room for a line
+MOST_LINE = 1 << 16
 
 
 def write(path, lines):
@@ -332,8 +333,9 @@ def main(folder):
     answers.update(dict.fromkeys(UNREADABLE, "bad case"))
     size = write(folder / "stdin", answers)
     write(folder / "stdout", answers.values())
-    assert size <= MOST_INPUT, size
-    print(f"{len(answers)} cases, {size} bytes")
+    longest = max(map(len, answers))
+    assert longest <= MOST_LINE, longest
+    print(f"{len(answers)} cases, {size} bytes, {longest} in the longest line")
 
 
 if __name__ == "__main__":

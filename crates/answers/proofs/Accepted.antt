@@ -15,19 +15,19 @@ use Rattle.basics.proofs.Sums.{In, in-more, in-last, in-cases}
 use Rattle.answer_forms.specs.Answer.{Check, accepted, fault, _then_}
 use Rattle.answer_forms.proofs.Composed.{first-accepted, second-accepted, no-fault}
 use Rattle.limits.specs.Limits.{mostArcs, mostCost}
-use Rattle.answers.specs.Checks.{unlike, arcCountCheck, arcCheck, markCheck, arcByArc, treeCheck, lengthCheck}
+use Rattle.answers.specs.Checks.{unlike, arcCountCheck, arcCheck, markCheck, oneByOne, treeCheck, lengthCheck}
 
 -- a check that finds nothing arc by arc finds nothing at each arc
-pub each-accepted : (check : ℕ → Check) (m : ℕ) → arcByArc check m ≡ accepted → (k : ℕ) → In m k → check k ≡ accepted
-unfolding arcByArc
+pub each-accepted : (check : ℕ → Check) (m : ℕ) → oneByOne check m ≡ accepted → (k : ℕ) → In m k → check k ≡ accepted
+unfolding oneByOne
 each-accepted check zero e k i = absurd (omega arith)
 each-accepted check (suc m) e k i =
-    in-cases m k i (each-accepted check m (first-accepted (arcByArc check m) (check (suc m)) e) k)
-    (λ d. ap check d ∙ second-accepted (arcByArc check m) (check (suc m)) e)
+    in-cases m k i (each-accepted check m (first-accepted (oneByOne check m) (check (suc m)) e) k)
+    (λ d. ap check d ∙ second-accepted (oneByOne check m) (check (suc m)) e)
 
 -- and one that finds nothing at each arc finds nothing
-pub all-accepted : (check : ℕ → Check) (m : ℕ) → ((k : ℕ) → In m k → check k ≡ accepted) → arcByArc check m ≡ accepted
-unfolding arcByArc
+pub all-accepted : (check : ℕ → Check) (m : ℕ) → ((k : ℕ) → In m k → check k ≡ accepted) → oneByOne check m ≡ accepted
+unfolding oneByOne
 all-accepted check zero h = refl
 all-accepted check (suc m) h = rw (all-accepted check m (λ k i. h k (in-more i))) (h (suc m) (in-last m))
 
@@ -109,7 +109,7 @@ module _ (t : Tree) (e : treeCheck t ≡ accepted) where
   nobody = fault (not (some (length ps) (marked ms))) 18 0
 
   abbrev after-lengths : Check
-  after-lengths = arcByArc at-arc (length ps) then nobody
+  after-lengths = oneByOne at-arc (length ps) then nobody
 
   abbrev lengths : Check
   lengths = fault (unlike ps (t .costs) || unlike ps ms) 2 0
@@ -139,7 +139,7 @@ module _ (t : Tree) (e : treeCheck t ≡ accepted) where
   arcs-then = second-accepted lengths after-lengths after-count
 
   pub each-arc : (k : ℕ) → In (length ps) k → (arcCheck ps (t .costs) k then markCheck ps ms k) ≡ accepted
-  each-arc = each-accepted at-arc (length ps) (first-accepted (arcByArc at-arc (length ps)) nobody arcs-then)
+  each-arc = each-accepted at-arc (length ps) (first-accepted (oneByOne at-arc (length ps)) nobody arcs-then)
 
   arcs : Arcs ps (t .costs)
   arcs =
@@ -174,7 +174,7 @@ module _ (t : Tree) (e : treeCheck t ≡ accepted) where
         someone =
             not-false (some (length ps) (marked ms))
             (no-fault (not (some (length ps) (marked ms))) 18 0
-            (second-accepted (arcByArc at-arc (length ps)) nobody arcs-then));
+            (second-accepted (oneByOne at-arc (length ps)) nobody arcs-then));
       }
 
 -- an output list that is accepted has the length of what is written

@@ -17,13 +17,13 @@ use Rattle.game.proofs.DeadEnds.{dead-end, dead-ends-length}
 use Rattle.limits.specs.Limits.{mostArcs}
 use Rattle.answer_forms.specs.Answer.{Check, accepted, fault, written, _then_}
 use Rattle.answer_forms.proofs.Composed.{first-accepted, no-fault, then-nothing, then-same}
-use Rattle.answers.specs.Checks.{unlike, arcCountCheck, arcCheck, markCheck, arcByArc, treeCheck, plainCheck}
+use Rattle.answers.specs.Checks.{unlike, arcCountCheck, arcCheck, markCheck, oneByOne, treeCheck, plainCheck}
 use Rattle.answers.specs.Checks.{outputCheck}
 use Rattle.answers.specs.DeadEnds.{deadEndsList, PlainStatement, DeadEndsStatement}
 use Rattle.answers.proofs.Accepted.{alike, each-accepted, count-accepted, arcs-accepted}
 
-each-same : (f g : ℕ → Check) (m : ℕ) → ((k : ℕ) → In m k → f k ≡ g k) → arcByArc f m ≡ arcByArc g m
-unfolding arcByArc
+each-same : (f g : ℕ → Check) (m : ℕ) → ((k : ℕ) → In m k → f k ≡ g k) → oneByOne f m ≡ oneByOne g m
+unfolding oneByOne
 each-same f g zero h = refl
 each-same f g (suc m) h =
     ap₂ (λ (c d : Check). c then d) (each-same f g m (λ k i. h k (in-more i))) (h (suc m) (in-last m))
@@ -51,9 +51,9 @@ module _ (ps cs : List ℕ) where
       not-both false = refl
 
   abbrev arcs : Check
-  arcs = arcByArc (arcCheck ps cs) (length ps)
+  arcs = oneByOne (arcCheck ps cs) (length ps)
 
-  arcs-same : arcByArc (λ k. arcCheck ps cs k then markCheck ps ms k) (length ps) ≡ arcs
+  arcs-same : oneByOne (λ k. arcCheck ps cs k then markCheck ps ms k) (length ps) ≡ arcs
   arcs-same =
       each-same (λ k. arcCheck ps cs k then markCheck ps ms k) (arcCheck ps cs) (length ps)
       (λ k i. then-nothing (arcCheck ps cs k) (no-mark-fault k i))
@@ -90,7 +90,7 @@ plain-check ps cs =
     nobody = fault (not (some (length ps) (marked (deadEnds ps)))) 18 0
 
     after : Check
-    after = arcByArc (λ k. arcCheck ps cs k then markCheck ps (deadEnds ps) k) (length ps) then nobody
+    after = oneByOne (λ k. arcCheck ps cs k then markCheck ps (deadEnds ps) k) (length ps) then nobody
 
     then-all : 0 < length ps → unlike ps cs ≡ false → (arcs ps cs then nobody) ≡ arcs ps cs
     then-all pos same =
@@ -103,7 +103,7 @@ unfolding plainCheck
 plain-few ps cs ok =
     count-accepted ps
     (first-accepted (arcCountCheck ps)
-    (fault (unlike ps cs) 2 0 then arcByArc (arcCheck ps cs) (length ps)) ok) .1
+    (fault (unlike ps cs) 2 0 then oneByOne (arcCheck ps cs) (length ps)) ok) .1
 
 pub dead-ends-accepted : DeadEndsStatement
 unfolding deadEndsList

@@ -8,7 +8,8 @@ use lib.ListN.{getD}
 use Rattle.game.specs.Network.{need, memberCount}
 use Rattle.game.specs.Tree.{Tree, network}
 use Rattle.game.specs.Level.{level}
-use Rattle.game.specs.LevelKeys.{amountOf, atKey}
+use Rattle.game.specs.Inward.{amountOf}
+use Rattle.game.specs.LevelKeys.{atKey}
 use Rattle.basics.proofs.Sums.{count-le}
 use Rattle.game.proofs.LevelByKeys.{level-by-keys}
 use Rattle.game.proofs.LevelCosts.{level-same, needs-grow, amount-is-cost}

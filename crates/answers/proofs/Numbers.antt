@@ -10,7 +10,7 @@ use Rattle.limits.specs.Limits.{mostArcs, mostCost}
 use Rattle.game.specs.Tree.{Tree, ofArc, hasChild, marked}
 use Rattle.answer_forms.specs.Answer.{Check, accepted, refused, fault, _then_}
 use Rattle.answer_forms.proofs.Composed.{fault-holds, then-holds}
-use Rattle.answers.specs.Checks.{unlike, arcCheck, markCheck, arcByArc, treeCheck}
+use Rattle.answers.specs.Checks.{unlike, arcCheck, markCheck, oneByOne, treeCheck}
 use Rattle.answers.specs.States.{State, treeIn, stateCheck}
 use Rattle.answers.specs.Events.{Event, reached, markedSo, fitCheck, outcomeCheck, eventCheck, applyCheck}
 
@@ -32,11 +32,11 @@ module _ (Holds : Check → Type 0) (nothing : Holds accepted)
       (by-fault-then (ltb 1 (ofArc marks k)) 15 k _ (omega arith)
       (by-fault (marked marks k && hasChild parents k) 16 k (omega arith)))
 
-  by-arcs : (check : ℕ → Check) → ((k : ℕ) → Holds (check k)) → (k : ℕ) → Holds (arcByArc check k)
-  unfolding arcByArc
+  by-arcs : (check : ℕ → Check) → ((k : ℕ) → Holds (check k)) → (k : ℕ) → Holds (oneByOne check k)
+  unfolding oneByOne
   by-arcs check at-arc zero = nothing
   by-arcs check at-arc (suc k) =
-      then-holds Holds (arcByArc check k) (check (suc k)) (by-arcs check at-arc k) (at-arc (suc k))
+      then-holds Holds (oneByOne check k) (check (suc k)) (by-arcs check at-arc k) (at-arc (suc k))
 
   pub by-tree : (t : Tree) → Holds (treeCheck t)
   unfolding treeCheck
@@ -44,7 +44,7 @@ module _ (Holds : Check → Type 0) (nothing : Holds accepted)
       let parents = t .parents in
       by-fault-then (eqb (length parents) 0 || ltb mostArcs (length parents)) 0 0 _ (omega arith)
       (by-fault-then (unlike parents (t .costs) || unlike parents (t .marks)) 1 0 _ (omega arith)
-      (then-holds Holds (arcByArc _ (length parents)) _
+      (then-holds Holds (oneByOne _ (length parents)) _
       (by-arcs _ (by-arc parents (t .costs) (t .marks)) (length parents))
       (by-fault (not (some (length parents) (marked (t .marks)))) 17 0 (omega arith))))
 

@@ -11,7 +11,7 @@ use lib.Dec.{leb}
 use Rattle.limits.specs.Limits.{mostEvents}
 use Rattle.game.specs.Network.{memberCount}
 use Rattle.game.specs.Tree.{Tree, network}
-use Rattle.answer_forms.specs.Answer.{Check, accepted, refused, value, refusal, _then_, answer, written}
+use Rattle.answer_forms.specs.Answer.{Check, accepted, refused, value, refusal, answer, written}
 use Rattle.answer_forms.proofs.Composed.{answered, refused-answer}
 use Rattle.answer_forms.proofs.Composed.{then-nothing}
 use Rattle.answers.specs.Checks.{treeCheck}

@@ -7,7 +7,7 @@ use mathlib.Core.List.{List}
 use native.Mathlib.Decide.{ℕ-discrete}
 use native.Mathlib.Omega.{arith}
 use borrow.Author.Tests.{eq-eqb, eqb-false, le-ltb, ltb-false}
-use lib.ListN.{length, set, length-set}
+use lib.ListN.{length, length-set}
 use lib.Seq.{getD-set-same, getD-set-other}
 use lib.Dec.{eqb, ltb, leb}
 use Rattle.basics.specs.Sum.{pick, some}
@@ -18,7 +18,7 @@ use Rattle.game.specs.Network.{memberCount}
 use Rattle.game.specs.Tree.{Tree, treeOf, network, ofArc, hasChild, marked}
 use Rattle.answer_forms.specs.Answer.{Check, accepted, fault, _then_}
 use Rattle.answer_forms.proofs.Composed.{first-accepted, second-accepted, no-fault, then-nothing, then-same}
-use Rattle.answers.specs.Checks.{arcCountCheck, arcCheck, markCheck, arcByArc, treeCheck}
+use Rattle.answers.specs.Checks.{arcCountCheck, arcCheck, markCheck, oneByOne, treeCheck}
 use Rattle.answers.specs.Laws.{ArcOf}
 use Rattle.answers.specs.Events.{Change, arrive, leave, newCost, Event, putArc, markedSo}
 use Rattle.answers.specs.Events.{vertexCheck, outcomeCheck, fitCheck}
@@ -41,8 +41,8 @@ put-other l (suc u) x (suc w) n = getD-set-other l u w x 0 (λ (e : w ≡ u). n 
 
 -- a check arc by arc that finds nothing but at one arc
 only-at : (check : ℕ → Check) (m v : ℕ) → In m v → ((k : ℕ) → In m k → (k ≡ v → ⊥) → check k ≡ accepted)
-    → arcByArc check m ≡ check v
-unfolding arcByArc
+    → oneByOne check m ≡ check v
+unfolding oneByOne
 only-at check zero v i h = absurd (omega arith)
 only-at check (suc m) v i h =
     elim (ℕ-discrete (suc m) v) [

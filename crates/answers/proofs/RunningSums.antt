@@ -4,9 +4,9 @@
 --   cap-sum-unused                                an arc that nobody uses
 --   all-caps-by-vertex, cap-sum-all               all caps, by the members' vertices and by the arcs from the source
 --   running-is, running-list                      the running sums are these, one by one and as a list
-use Prim.Native.Nat.{ℕ, zero, suc, _+_, _<_}
+use Prim.Native.Nat.{ℕ}
 use mathlib.Core.Path.{_≡_, refl, sym, ap, _∙_}
-use mathlib.Core.Bool.{true, false}
+use mathlib.Core.Bool.{true, false, cond}
 use mathlib.Core.Logic.{⊎-elim}
 use mathlib.Core.List.{List}
 use native.Mathlib.Omega.{arith}
@@ -18,7 +18,8 @@ use Rattle.basics.proofs.Bools.{both, clash, not-so, pick-swap, pick-and, pick-
 use Rattle.basics.proofs.Sums.{In, sum-cong, sum-zero}
 use Rattle.basics.proofs.Lists.{list-cong}
 use Rattle.game.specs.Network.{Network, atOrBelow, user, used, everyone, sumBelow, number, memberCount}
-use Rattle.game.proofs.Below.{Rooted, child-after, sum-below-children, sum-from-source}
+use Rattle.game.proofs.Below.{Rooted, sum-below-children, sum-from-source}
+use Rattle.game.proofs.Inward.{from-leaves, inward-is}
 use Rattle.game.proofs.Groups.{used-of}
 use Rattle.game.proofs.Overpayment.{members-sum}
 use Rattle.game.proofs.Certificate.{children}
@@ -26,7 +27,7 @@ use Rattle.game.proofs.Excess.{MembersEnd}
 use Rattle.game.proofs.Core.{own-sum}
 use Rattle.game.proofs.LevelList.{view, view-off}
 use Rattle.answers.specs.Level.{capSum}
-use Rattle.answers.specs.CapSums.{runningTo, runningSum, allCaps}
+use Rattle.answers.specs.CapSums.{runningSum, allCaps}
 
 pub cap-sum-unused : (n : Network) (caps : List ℕ) (k : ℕ) → used n everyone k ≡ false → capSum n caps k ≡ 0
 unfolding sumBelow
@@ -58,24 +59,19 @@ module _ (n : Network) (rooted : Rooted n) (caps : List ℕ) where
     pub cap-sum-at-member : (k : ℕ) → In (n .arcs) k → n .member k ≡ true → capSum n caps k ≡ getD caps (number n k) 0
     cap-sum-at-member k i m = own-sum n rooted end (view n caps) k i m ∙ pick-yes (getD caps (number n k) 0) m
 
-    -- arcs from k down, one below the other, have rising numbers, so there are at most as many as from k to the last
-    running-to-is : (f k : ℕ) → In (n .arcs) k → n .arcs < k + f → runningTo f n caps k ≡ capSum n caps k
-    unfolding runningTo
-    running-to-is zero k i h = absurd (omega (arith, i .high))
-    running-to-is (suc f) k i h =
-        ⊎-elim
+    pub running-is : (k : ℕ) → In (n .arcs) k → runningSum n caps k ≡ capSum n caps k
+    running-is =
+        from-leaves n rooted (λ k. runningSum n caps k ≡ capSum n caps k)
+        (λ k i ih.
+        inward-is n rooted (λ e below. cond (n .member e) (getD caps (number n e) 0) below) k i
+        ∙ ⊎-elim
         (λ (m : n .member k ≡ true). rw m (sym (cap-sum-at-member k i m)))
         (λ (m : n .member k ≡ false).
         rw m
         (sum-cong (n .arcs)
-        (λ u j.
-        pick-same (eqb (n .parent u) k)
-        (λ e. running-to-is f u j (omega (arith, child-after n rooted k u j (eqb-true (n .parent u) k e)))))
+        (λ u j. pick-same (eqb (n .parent u) k) (λ e. ih u j (eqb-true (n .parent u) k e)))
         ∙ sym (cap-sum-elsewhere k i m)))
-        (both (n .member k))
-
-    pub running-is : (k : ℕ) → In (n .arcs) k → runningSum n caps k ≡ capSum n caps k
-    running-is k i = running-to-is (n .arcs) k i (omega (arith, i .low))
+        (both (n .member k)))
 
     pub running-list : list (n .arcs) (runningSum n caps) ≡ list (n .arcs) (capSum n caps)
     running-list = list-cong (n .arcs) running-is

@@ -7,7 +7,7 @@ use Rattle.basics.specs.Sum.{size, entries}
 use Rattle.game.specs.Group.{wordsOf}
 use Rattle.game.specs.Proposal.{pays}
 use Rattle.game.specs.Search.{groups, best, named}
-use Rattle.answers.specs.Checks.{arcByArc, treeCheck, plainCheck, bitsCheck, rangeCheck}
+use Rattle.answers.specs.Checks.{oneByOne, treeCheck, plainCheck, bitsCheck, rangeCheck}
 use Rattle.answers.specs.DeadEnds.{deadEndsAnswer, deadEndsList}
 use Rattle.answers.specs.Members.{memberCountAnswer, membersAnswer, membersList}
 use Rattle.answers.specs.Needs.{needsAnswer, needsList}
@@ -15,12 +15,13 @@ use Rattle.answers.specs.GroupCost.{groupCostAnswer}
 use Rattle.answers.specs.Audit.{totalAnswer, searchAnswer, searchWords}
 use Rattle.game.specs.Level.{firstLeast, units, arcsDown}
 use Rattle.answers.specs.Level.{shortArc, levelAnswer, levelList}
-use Rattle.answers.specs.CapSums.{runningTo, capSumsAnswer, capSumsList}
+use Rattle.answers.specs.CapSums.{capSumsAnswer, capSumsList}
 use Rattle.game.specs.ByArc.{tallied, giveArc, handled}
 use Rattle.answers.specs.ByArc.{byArcAnswer, byArcList}
 use Rattle.game.specs.LevelKeys.{greatest}
 use Rattle.game.specs.Branch.{branchMarks}
-use Rattle.game.specs.Margin.{raisedWithin, widest}
+use Rattle.game.specs.Inward.{inwardWithin}
+use Rattle.game.specs.Margin.{widest}
 use Rattle.answers.specs.Margin.{marginAnswer, marginList}
 use Rattle.answers.specs.States.{padded, madeState, treeIn, stateCheck}
 use Rattle.answers.specs.Events.{outcomeCheck, eventCheck}
@@ -29,11 +30,11 @@ use Rattle.answers.specs.Table.{Table}
 
 pub table : Table
 unfolding climb used groupCost sumBelow wholeCost membersTo hasChild deadEnds countedCosts bit size entries wordsOf pays
-    groups best named arcByArc treeCheck plainCheck deadEndsAnswer deadEndsList bitsCheck rangeCheck
+    groups best named oneByOne treeCheck plainCheck deadEndsAnswer deadEndsList bitsCheck rangeCheck
     memberCountAnswer membersAnswer membersList needsAnswer needsList groupCostAnswer totalAnswer searchAnswer
     searchWords firstLeast units arcsDown shortArc levelAnswer levelList tallied giveArc handled byArcAnswer
-    byArcList runningTo capSumsAnswer capSumsList padded madeState treeIn stateCheck outcomeCheck eventCheck askAnswer
-    askedShares commitCheck commitAnswer committedState greatest branchMarks raisedWithin widest marginAnswer marginList
+    byArcList capSumsAnswer capSumsList padded madeState treeIn stateCheck outcomeCheck eventCheck askAnswer
+    askedShares commitCheck commitAnswer committedState greatest branchMarks inwardWithin widest marginAnswer marginList
 table =
     record {
       T-members = refl;

@@ -1,27 +1,20 @@
 -- The running sums of caps in a lent list, one an arc; the sum of all caps.
-use Prim.Native.Nat.{ℕ, zero, suc}
+use Prim.Native.Nat.{ℕ}
 use mathlib.Core.Bool.{cond}
 use mathlib.Core.List.{List}
 use lib.ListN.{length, getD}
-use lib.Dec.{eqb}
-use Rattle.basics.specs.Sum.{pick, sum, sum₀, list}
+use Rattle.basics.specs.Sum.{sum₀, list}
 use Rattle.game.specs.Network.{Network, number, memberCount}
 use Rattle.game.specs.Tree.{Tree, network}
+use Rattle.game.specs.Inward.{inward}
 use Rattle.answer_forms.specs.Answer.{Check, Answer, _then_, answer, written}
 use Rattle.answers.specs.Checks.{treeCheck, outputCheck}
 use Rattle.answers.specs.Level.{capsCheck}
 
--- at a member's arc its cap, elsewhere the running sums of its child arcs added up, 0 where there are none; the first
--- argument bounds the steps taken
-unfoldable pub runningTo : ℕ → Network → List ℕ → ℕ → ℕ
-runningTo zero n caps k = 0
-runningTo (suc f) n caps k =
-    cond (n .member k) (getD caps (number n k) 0)
-    (sum (n .arcs) (λ u. pick (eqb (n .parent u) k) (runningTo f n caps u)))
-
--- an arc's running sum of caps; a child arc has the larger number, so as many steps as there are arcs reach every end
+-- an arc's running sum of caps: at a member's arc its cap, elsewhere the running sums of its child arcs added up, 0
+-- where there are none
 abbrev pub runningSum : Network → List ℕ → ℕ → ℕ
-runningSum n = runningTo (n .arcs) n
+runningSum n caps = inward n (λ k below. cond (n .member k) (getD caps (number n k) 0) below)
 
 -- what all caps add up to
 abbrev pub allCaps : List ℕ → ℕ

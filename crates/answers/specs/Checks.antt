@@ -27,17 +27,17 @@ arcCheck parents costs k = fault (leb k (ofArc parents k)) 3 k then fault (ltb m
 abbrev pub markCheck : List ℕ → List ℕ → ℕ → Check
 markCheck parents marks k = fault (ltb 1 (ofArc marks k)) 16 k then fault (marked marks k && hasChild parents k) 17 k
 
--- a check arc by arc, from arc 1 to arc k
-unfoldable pub arcByArc : (ℕ → Check) → ℕ → Check
-arcByArc check zero = accepted
-arcByArc check (suc k) = arcByArc check k then check (suc k)
+-- a check of the numbers 1, 2, .., k one by one
+unfoldable pub oneByOne : (ℕ → Check) → ℕ → Check
+oneByOne check zero = accepted
+oneByOne check (suc k) = oneByOne check k then check (suc k)
 
 -- 1, 2, then 3, 4, 16 and 17 arc by arc, and 18 where no vertex is marked
 unfoldable pub treeCheck : Tree → Check
 treeCheck t =
     arcCountCheck (t .parents)
     then fault (unlike (t .parents) (t .costs) || unlike (t .parents) (t .marks)) 2 0
-    then arcByArc (λ k. arcCheck (t .parents) (t .costs) k then markCheck (t .parents) (t .marks) k)
+    then oneByOne (λ k. arcCheck (t .parents) (t .costs) k then markCheck (t .parents) (t .marks) k)
     (length (t .parents))
     then fault (not (some (length (t .parents)) (marked (t .marks)))) 18 0
 
@@ -46,7 +46,7 @@ unfoldable pub plainCheck : List ℕ → List ℕ → Check
 plainCheck parents costs =
     arcCountCheck parents
     then fault (unlike parents costs) 2 0
-    then arcByArc (arcCheck parents costs) (length parents)
+    then oneByOne (arcCheck parents costs) (length parents)
 
 -- 5 at the lowest bit that is set from bit j on, with f bits left to look at
 unfoldable pub bitsCheck : List ℕ → ℕ → ℕ → Check

@@ -12,7 +12,7 @@ use events::State;
 use limits::MOST_ARCS;
 ghost use mathlib.Core.Path.{_≡_};
 ghost use Rattle.answers.specs.Quotes.{askAnswer, askedShares, commitAnswer, committedState};
-ghost use Rattle.events.specs.Outcomes.{stateOf, changeOf, eventOf, quoteOf, quoteGivenOf};
+ghost use Rattle.events.specs.Outcomes.{stateOf, changeOf, quoteOf, quoteGivenOf};
 ghost use Rattle.capi.specs.Structs.{eventBy, encodeEvent, encodeQuote, quoteBy, encodeAsked, decodeAsked};
 ghost use Rattle.capi.specs.Structs.{encodeState, decodeState};
 

@@ -11,7 +11,7 @@ use lib.Dec.{eqb, ltb, leb}
 use Rattle.limits.specs.Limits.{mostCost}
 use Rattle.game.specs.Tree.{hasChild}
 use Rattle.answer_forms.specs.Answer.{Check, accepted, refused, fault, _then_}
-use Rattle.answers.specs.Checks.{arcCheck, markCheck, arcByArc}
+use Rattle.answers.specs.Checks.{arcCheck, markCheck, oneByOne}
 use Rattle.answer_forms.specs.Checked.{checkOf}
 use Rattle.answer_forms.specs.declared.Refusal.{Refusal}
 use Rattle.answer_forms.specs.declared.Checked.{Checked}
@@ -39,9 +39,9 @@ module _ (ps cs : List ℕ) (i : ℕ) {found : Check} where
 
 module _ (check : ℕ → Check) where
   -- what is found at arc k is the answer for all arcs from k on
-  stays : (k m : ℕ) {number place : ℕ} → arcByArc check k ≡ refused number place → k ≤ m
-      → arcByArc check m ≡ refused number place
-  unfolding arcByArc
+  stays : (k m : ℕ) {number place : ℕ} → oneByOne check k ≡ refused number place → k ≤ m
+      → oneByOne check m ≡ refused number place
+  unfolding oneByOne
   stays k zero e h = let z : k ≡ 0 = omega arith in rw z at e
   stays k (suc m) e h =
       elim (ℕ-discrete k (suc m)) [
@@ -50,14 +50,14 @@ module _ (check : ℕ → Check) where
       ]
 
   -- the arcs up to i are accepted, and r is what is found at the next one
-  module _ (i : ℕ) {k : ℕ} (r : Checked) (next : k ≡ suc i) (so-far : arcByArc check i ≡ accepted)
+  module _ (i : ℕ) {k : ℕ} (r : Checked) (next : k ≡ suc i) (so-far : oneByOne check i ≡ accepted)
       (here : checkOf r ≡ check (suc i)) where
-    to-k : arcByArc check k ≡ checkOf r
-    unfolding arcByArc
-    to-k = ap (arcByArc check) next ∙ ap (λ (c : Check). c then check (suc i)) so-far ∙ sym here
+    to-k : oneByOne check k ≡ checkOf r
+    unfolding oneByOne
+    to-k = ap (oneByOne check) next ∙ ap (λ (c : Check). c then check (suc i)) so-far ∙ sym here
 
-    pub arcs-on : r ≡ Accepted → arcByArc check k ≡ accepted
+    pub arcs-on : r ≡ Accepted → oneByOne check k ≡ accepted
     arcs-on e = to-k ∙ ap checkOf e
 
-    pub arcs-stop : {x : Refusal} → r ≡ Refused x → (m : ℕ) → k ≤ m → checkOf r ≡ arcByArc check m
+    pub arcs-stop : {x : Refusal} → r ≡ Refused x → (m : ℕ) → k ≤ m → checkOf r ≡ oneByOne check m
     arcs-stop e m h = ap checkOf e ∙ sym (stays k m (to-k ∙ ap checkOf e) h)

@@ -6,14 +6,14 @@ use answer_forms::refusals;
 use answer_forms::refuse;
 ghost use mathlib.Core.Path.{_≡_};
 ghost use lib.ListN.{length};
-ghost use Rattle.answers.specs.Checks.{plainCheck, arcByArc, arcCheck};
+ghost use Rattle.answers.specs.Checks.{plainCheck, oneByOne, arcCheck};
 ghost use Rattle.answer_forms.specs.Checked.{checkOf};
 
 // 3 and 4 arc by arc.
 fn check_arcs(parents: &[u16], costs: &[u32]) -> Checked
     requires { ⌜ length (now parents) ≡ length (now costs) ⌝ }
     ensures { λ r. ⌜ checkOf r
-        ≡ arcByArc (arcCheck (now (parents .entry)) (now (costs .entry))) (length (now (parents .entry))) ⌝ }
+        ≡ oneByOne (arcCheck (now (parents .entry)) (now (costs .entry))) (length (now (parents .entry))) ⌝ }
 {
     let mut i = 0;
     while i < parents.len() {

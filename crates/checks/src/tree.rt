@@ -14,7 +14,7 @@ ghost use lib.Dec.{eqb, ltb, leb};
 ghost use Rattle.limits.specs.Limits.{mostArcs, mostCost};
 ghost use Rattle.game.specs.Tree.{treeOf};
 ghost use Rattle.answer_forms.specs.Answer.{fault, _then_};
-ghost use Rattle.answers.specs.Checks.{treeCheck, arcByArc, arcCheck, markCheck};
+ghost use Rattle.answers.specs.Checks.{treeCheck, oneByOne, arcCheck, markCheck};
 ghost use Rattle.answer_forms.specs.Checked.{checkOf};
 
 // 3, 4, 16 and 17 at arc k.
@@ -35,7 +35,7 @@ fn check_arcs(parents: &[u16], costs: &[u32], marks: &[u16]) -> Checked
     requires { ⌜ length (now parents) ≤ mostArcs ⌝ }
     requires { ⌜ length (now parents) ≡ length (now costs) ⌝ }
     requires { ⌜ length (now parents) ≡ length (now marks) ⌝ }
-    ensures { λ r. ⌜ checkOf r ≡ arcByArc
+    ensures { λ r. ⌜ checkOf r ≡ oneByOne
         (λ k. arcCheck (now (parents .entry)) (now (costs .entry)) k
         then markCheck (now (parents .entry)) (now (marks .entry)) k)
         (length (now (parents .entry))) ⌝ }

@@ -16,7 +16,7 @@ use lib.Dec.{eqb}
 use Rattle.basics.specs.Sum.{pick, sum}
 use Rattle.game.specs.Network.{Network, atOrBelow, used, everyone, sumBelow, need, wholeCost, memberCount}
 use Rattle.game.specs.ByArc.{userCount}
-use Rattle.game.specs.LevelKeys.{ofChildren}
+use Rattle.game.specs.Inward.{ofChildren}
 use Rattle.basics.proofs.Bools.{both, clash, not-so, and-first, and-second, pick-yes, pick-no, pick-zero, pick-same}
 use Rattle.basics.proofs.Sums.{In, sum-cong, sum-at}
 use Rattle.game.proofs.Below.{Rooted, below-self, below-source, below-cases, below-comparable}

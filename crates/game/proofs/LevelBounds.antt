@@ -18,7 +18,7 @@ use lib.Dec.{eqb}
 use Rattle.basics.specs.Sum.{pick, sum}
 use Rattle.game.specs.Network.{Network, atOrBelow, number, memberCount, sumBelow}
 use Rattle.game.specs.ByArc.{userCount}
-use Rattle.game.specs.LevelKeys.{ofChildren, amountOf}
+use Rattle.game.specs.Inward.{ofChildren, amountOf}
 use Rattle.game.specs.Margin.{levelFree}
 use Rattle.basics.proofs.Bools.{and-first, and-second, pick-yes, pick-same, pick-mono}
 use Rattle.basics.proofs.Sums.{In, sum-cong, sum-mono, term-le}

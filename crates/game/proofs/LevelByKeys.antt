@@ -18,7 +18,8 @@ use Rattle.basics.specs.Sum.{pick, sum}
 use Rattle.game.specs.Network.{Network, atOrBelow, number, memberCount, members, sumBelow}
 use Rattle.game.specs.Core.{users}
 use Rattle.game.specs.Level.{mayTake, firstLeast, oneMore, units, arcsDown, level}
-use Rattle.game.specs.LevelKeys.{ofChildren, amountOf, atKey, held, arcKey, most, pathKey}
+use Rattle.game.specs.Inward.{ofChildren, amountOf}
+use Rattle.game.specs.LevelKeys.{atKey, held, arcKey, most, pathKey}
 use Rattle.basics.proofs.Bools.{not-so, pick-yes, pick-no, pick-same}
 use Rattle.basics.proofs.Sums.{In, sum-cong, sum-add}
 use Rattle.game.proofs.Below.{Rooted, child-after, below-cases, below-le, below-comparable, sum-below-children}

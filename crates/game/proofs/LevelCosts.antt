@@ -8,7 +8,7 @@ use lib.Dec.{eqb}
 use Rattle.basics.specs.Sum.{pick}
 use Rattle.game.specs.Network.{Network, need}
 use Rattle.game.specs.Level.{unit, units, arcsDown, level}
-use Rattle.game.specs.LevelKeys.{ofChildren, amountOf}
+use Rattle.game.specs.Inward.{ofChildren, amountOf}
 use Rattle.basics.proofs.Sums.{In, in-last, in-more, sum-cong}
 use Rattle.game.proofs.Below.{Rooted, sum-below-children}
 

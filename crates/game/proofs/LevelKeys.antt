@@ -19,7 +19,8 @@ use lib.ListN.{getD}
 use lib.Dec.{eqb, ltb}
 use Rattle.basics.specs.Sum.{pick}
 use Rattle.game.specs.Network.{Network, number, memberCount}
-use Rattle.game.specs.LevelKeys.{ofChildren, atKey, heldWithin, held}
+use Rattle.game.specs.Inward.{ofChildren}
+use Rattle.game.specs.LevelKeys.{atKey, heldWithin, held}
 use Rattle.basics.proofs.Bools.{pick-yes, pick-no, pick-le, pick-mono, pick-both-le, pick-same, pick-zero, smaller-is}
 use Rattle.basics.proofs.Sums.{In, sum-cong, sum-mono, sum-gap}
 use Rattle.game.proofs.Below.{Rooted, child-after}

@@ -16,7 +16,8 @@ use borrow.Author.Tests.{leb-true, le-leb}
 use lib.Dec.{leb}
 use Rattle.basics.specs.Sum.{pick}
 use Rattle.game.specs.Network.{Network, atOrBelow}
-use Rattle.game.specs.LevelKeys.{ofChildren, held, greatest, arcKey, most, pathKey}
+use Rattle.game.specs.Inward.{ofChildren}
+use Rattle.game.specs.LevelKeys.{held, greatest, arcKey, most, pathKey}
 use Rattle.basics.proofs.Bools.{both, clash, pick-yes}
 use Rattle.basics.proofs.Sums.{In, in-cases, in-last, in-more}
 use Rattle.game.proofs.Below.{Rooted, below-self, below-parent, below-cases, below-le}

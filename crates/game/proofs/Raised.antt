@@ -8,8 +8,8 @@
 --   raised-limit                 at most the costs and a margin an arc
 --   widest-passes, widest-most   at the widest margin the raised need of arc b is its need; none that is greater
 --   widest-is                    so it is the one that passes and whose next does not
-use Prim.Native.Nat.{ℕ, zero, suc, _+_, _≤_, _<_, max}
-use mathlib.Core.Path.{_≡_, ap, _∙_}
+use Prim.Native.Nat.{ℕ, suc, _+_, _≤_, _<_, max}
+use mathlib.Core.Path.{_≡_, _∙_}
 use mathlib.Core.Bool.{Bool, true}
 use native.Mathlib.Decide.{decLt}
 use native.Mathlib.Omega.{arith}
@@ -18,12 +18,12 @@ use lib.Dec.{eqb, ltb}
 use Rattle.basics.specs.Sum.{pick}
 use Rattle.game.specs.Network.{Network, atOrBelow, sumBelow, need, memberCount}
 use Rattle.game.specs.ByArc.{userCount}
-use Rattle.game.specs.LevelKeys.{ofChildren}
-use Rattle.game.specs.Margin.{raisedBy, raisedWithin, raised, widest}
+use Rattle.game.specs.Inward.{ofChildren}
+use Rattle.game.specs.Margin.{raisedBy, raised, widest}
 use Rattle.basics.proofs.Bools.{pick-yes, pick-no, pick-same, pick-zero, pick-add, pick-le, pick-both-le}
 use Rattle.basics.proofs.Sums.{In, sum-cong, sum-add, sum-zero, term-le}
-use Rattle.game.proofs.Below.{Rooted, child-after, below-self, sum-below-children}
-use Rattle.game.proofs.Inward.{from-leaves, children-mono}
+use Rattle.game.proofs.Below.{Rooted, below-self, sum-below-children}
+use Rattle.game.proofs.Inward.{from-leaves, children-mono, inward-is}
 use Rattle.game.proofs.UserSums.{count-children}
 use Rattle.game.proofs.PathKeys.{greatest-le, greatest-passes, greatest-most}
 
@@ -42,23 +42,9 @@ module _ (n : Network) (rooted : Rooted n) where
         pick-yes (userCount n u) (eq-eqb (n .parent u) k e),
       )
 
-  -- more steps change nothing where they reach the last arc
-  within-enough : (f d k : ℕ) → In (n .arcs) k → n .arcs < f + k
-      → raisedWithin n f d k ≡ raisedWithin n (suc f) d k
-  unfolding raisedWithin
-  within-enough zero d k i h = absurd (omega arith)
-  within-enough (suc f) d k i h =
-      ap (raisedBy n d k)
-      (sum-cong (n .arcs)
-      (λ u j.
-      pick-same (eqb (n .parent u) k)
-      (λ e.
-      within-enough f d u j (omega (arith, child-after n rooted k u j (eqb-true (n .parent u) k e))))))
-
   module _ (d : ℕ) where
     pub raised-is : (k : ℕ) → In (n .arcs) k → raised n d k ≡ raisedBy n d k (ofChildren n (raised n d) k)
-    unfolding raisedWithin
-    raised-is k i = within-enough (n .arcs) d k i (omega arith)
+    raised-is = inward-is n rooted (raisedBy n d)
 
     pub raised-unused : (k : ℕ) → In (n .arcs) k → userCount n k ≡ 0 → raised n d k ≡ 0
     raised-unused k i none =

@@ -1,20 +1,13 @@
 -- The level split by keys, without units and without an order of arcs: a member's share is the one at the greatest key
 -- on its path.
-use Prim.Native.Nat.{ℕ, zero, suc, _+_, _-_, _/_, _%_, max}
+use Prim.Native.Nat.{ℕ, zero, suc, _+_, _/_, _%_, max}
 use mathlib.Core.Bool.{Bool, cond}
 use mathlib.Core.List.{List}
 use lib.ListN.{getD}
-use lib.Dec.{eqb, ltb, leb}
-use Rattle.basics.specs.Sum.{pick, sum, smaller}
+use lib.Dec.{ltb, leb}
+use Rattle.basics.specs.Sum.{pick, smaller}
 use Rattle.game.specs.Network.{Network, atOrBelow, number}
-
--- the sum of f over vertex k's child arcs
-abbrev pub ofChildren : Network → (ℕ → ℕ) → ℕ → ℕ
-ofChildren n f k = sum (n .arcs) (λ u. pick (eqb (n .parent u) k) (f u))
-
--- what arc k gives out where the users of every arc are to have its bound together when it has given out
-abbrev pub amountOf : Network → (ℕ → ℕ) → ℕ → ℕ
-amountOf n bound k = bound k - ofChildren n bound k
+use Rattle.game.specs.Inward.{ofChildren}
 
 -- A key is a level and a limit on member numbers, level * 1024 + limit. At a key member j has one above the level where
 -- its number is below the limit, else the level, and at most its cap.

@@ -5,6 +5,7 @@ pub mod Proposal
 pub mod Search
 pub mod Core
 pub mod Level
+pub mod Inward
 pub mod LevelKeys
 pub mod ByArc
 pub mod Shapley

@@ -1,5 +1,5 @@
 -- The widest margin on a network whose members all use one arc b from the source, and the split that gives it.
-use Prim.Native.Nat.{ℕ, zero, suc, _+_, _<_, max}
+use Prim.Native.Nat.{ℕ, _+_, _<_, max}
 use mathlib.Core.Path.{_≡_}
 use mathlib.Core.Bool.{Bool, true, false, not, _&&_}
 use mathlib.Core.List.{List}
@@ -12,7 +12,8 @@ use Rattle.game.specs.Group.{byNumber}
 use Rattle.game.specs.Proposal.{pays}
 use Rattle.game.specs.ByArc.{userCount}
 use Rattle.game.specs.Level.{level}
-use Rattle.game.specs.LevelKeys.{ofChildren, amountOf, greatest}
+use Rattle.game.specs.Inward.{amountOf, inward}
+use Rattle.game.specs.LevelKeys.{greatest}
 
 -- the costs of the arcs that only the group uses: one of its members does, and nobody else
 unfoldable pub ownCost : Network → (ℕ → Bool) → ℕ
@@ -38,14 +39,8 @@ abbrev pub raisedBy : Network → ℕ → ℕ → ℕ → ℕ
 raisedBy n d k below =
     pick (ltb 0 (userCount n k)) (max (need n k + pick (ltb (userCount n k) (memberCount n)) d) below)
 
--- the second argument bounds the steps down the tree
-unfoldable pub raisedWithin : Network → ℕ → ℕ → ℕ → ℕ
-raisedWithin n zero d k = 0
-raisedWithin n (suc f) d k = raisedBy n d k (ofChildren n (raisedWithin n f d) k)
-
--- no path down the tree has more steps than the network has arcs
 abbrev pub raised : Network → ℕ → ℕ → ℕ
-raised n = raisedWithin n (n .arcs)
+raised n d = inward n (raisedBy n d)
 
 -- the widest margin: the greatest, up to arc b's need, at which the raised need of arc b is its need
 unfoldable pub widest : Network → ℕ → ℕ

@@ -2,7 +2,7 @@
 use mathlib.Core.Path.{refl}
 use Rattle.basics.specs.Sum.{entries}
 use Rattle.game.specs.Tree.{hasChild, deadEnds}
-use Rattle.answers.specs.Checks.{arcByArc, treeCheck, plainCheck, rangeCheck}
+use Rattle.answers.specs.Checks.{oneByOne, treeCheck, plainCheck, rangeCheck}
 use Rattle.numbers.specs.Signed.{signed64, bits64}
 use Rattle.job_bytes.specs.Numbers.{littleEndian, inBytes}
 use Rattle.job_bytes.specs.JobBytes.{arcRow, memberRow, rows, trailer, jobBytes}
@@ -14,7 +14,7 @@ use Rattle.job.specs.Writer.{contentsCheck, lengthAnswer, writeCheck, wr
 use Rattle.job.specs.Table.{JobTable}
 
 pub table : JobTable
-unfolding hasChild deadEnds arcByArc treeCheck rangeCheck littleEndian signed64 bits64 inBytes entries
+unfolding hasChild deadEnds oneByOne treeCheck rangeCheck littleEndian signed64 bits64 inBytes entries
     arcRow memberRow trailer arcOffset memberOffset
     jobArcs jobMembers version formCheck fillersFrom sharesCheck valuesCheck jobCheck readCheck jobAnswer jobLists
     plainCheck rows jobBytes contentsCheck lengthAnswer writeCheck writeAnswer writeOutput

@@ -16,7 +16,8 @@ use Rattle.basics.specs.Sum.{pick, list, total}
 use Rattle.game.specs.Network.{Network, number, memberCount, sumBelow, atOrBelow}
 use Rattle.game.specs.Tree.{ofArc}
 use Rattle.game.specs.Level.{level}
-use Rattle.game.specs.LevelKeys.{ofChildren, amountOf, atKey, held, pathKey}
+use Rattle.game.specs.Inward.{ofChildren, amountOf}
+use Rattle.game.specs.LevelKeys.{atKey, held, pathKey}
 use Rattle.limits.specs.Limits.{mostArcs, mostShare}
 use Rattle.limits.specs.Inner.{mostTotal}
 use Rattle.basics.proofs.Bools.{pick-same, pick-yes, pick-le, smaller-is}

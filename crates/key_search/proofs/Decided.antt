@@ -14,7 +14,8 @@ use borrow.Author.Tests.{eq-eqb, ne-eqb, lt-ltb, le-ltb}
 use lib.ListN.{length}
 use lib.Dec.{ltb}
 use Rattle.game.specs.Network.{Network}
-use Rattle.game.specs.LevelKeys.{ofChildren, held, arcKey, pathKey}
+use Rattle.game.specs.Inward.{ofChildren}
+use Rattle.game.specs.LevelKeys.{held, arcKey, pathKey}
 use Rattle.game.specs.Tree.{ofArc}
 use Rattle.basics.proofs.Bools.{both}
 use Rattle.basics.proofs.Sums.{In}

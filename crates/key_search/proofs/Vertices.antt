@@ -13,7 +13,8 @@ use Rattle.basics.proofs.Bools.{both, clash, pick-yes, pick-no}
 use Rattle.basics.proofs.Sums.{In}
 use Rattle.game.specs.Network.{Network, number}
 use Rattle.game.specs.Tree.{ofArc}
-use Rattle.game.specs.LevelKeys.{amountOf, atKey}
+use Rattle.game.specs.Inward.{amountOf}
+use Rattle.game.specs.LevelKeys.{atKey}
 use Rattle.game.proofs.LevelByKeys.{level-length}
 use Rattle.game.proofs.Numbering.{member-at}
 use Rattle.game.proofs.Overpayment.{number-lt}

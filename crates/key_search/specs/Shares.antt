@@ -8,7 +8,8 @@ use Rattle.basics.proofs.Sums.{In}
 use Rattle.game.specs.Network.{number}
 use Rattle.game.specs.Tree.{ofArc}
 use Rattle.game.specs.Level.{level}
-use Rattle.game.specs.LevelKeys.{ofChildren, amountOf, atKey}
+use Rattle.game.specs.Inward.{ofChildren, amountOf}
+use Rattle.game.specs.LevelKeys.{atKey}
 use Rattle.tree.specs.Passes.{networkAt}
 use Rattle.answers.specs.Level.{capSum}
 use Rattle.key_passes.specs.Passes.{at}

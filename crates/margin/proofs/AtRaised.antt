@@ -14,7 +14,7 @@ use Rattle.limits.specs.Inner.{mostWhole}
 use Rattle.game.specs.Network.{Network, need, memberCount, sumBelow}
 use Rattle.game.specs.Tree.{ofArc, networkOf}
 use Rattle.game.specs.ByArc.{userCount}
-use Rattle.game.specs.LevelKeys.{ofChildren, amountOf}
+use Rattle.game.specs.Inward.{ofChildren, amountOf}
 use Rattle.game.specs.Margin.{raised, widest, sharesAt}
 use Rattle.game.proofs.ArcEntries.{of-list}
 use Rattle.game.proofs.SumBounds.{sum-below-le}

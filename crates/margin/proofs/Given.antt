@@ -10,7 +10,7 @@ use Rattle.basics.proofs.Lists.{list-length, list-at}
 use Rattle.game.specs.Network.{Network, sumBelow, need}
 use Rattle.game.specs.Tree.{ofArc}
 use Rattle.game.specs.ByArc.{userCount}
-use Rattle.game.specs.LevelKeys.{ofChildren}
+use Rattle.game.specs.Inward.{ofChildren}
 use Rattle.game.specs.Margin.{raised}
 use Rattle.game.proofs.SumBounds.{sum-below-le, children-le}
 use Rattle.game.proofs.Inward.{children-mono}

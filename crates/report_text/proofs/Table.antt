@@ -9,7 +9,7 @@ use Rattle.game.specs.Proposal.{pays}
 use Rattle.game.specs.Search.{groups, best, named}
 use Rattle.game.specs.Level.{firstLeast, units, arcsDown}
 use Rattle.game.specs.ByArc.{tallied, giveArc, handled}
-use Rattle.answers.specs.Checks.{arcByArc, treeCheck, rangeCheck}
+use Rattle.answers.specs.Checks.{oneByOne, treeCheck, rangeCheck}
 use Rattle.answers.specs.Audit.{totalAnswer, searchAnswer, searchWords}
 use Rattle.answers.specs.Level.{shortArc, levelAnswer, levelList}
 use Rattle.answers.specs.ByArc.{byArcList}
@@ -27,7 +27,7 @@ use Rattle.report_text.specs.Table.{ReportTable}
 pub table : ReportTable
 unfolding climb used groupCost sumBelow wholeCost membersTo hasChild deadEnds countedCosts bit size wordsOf
     pays groups best named
-    firstLeast units arcsDown tallied giveArc handled arcByArc treeCheck rangeCheck totalAnswer searchAnswer
+    firstLeast units arcsDown tallied giveArc handled oneByOne treeCheck rangeCheck totalAnswer searchAnswer
     searchWords shortArc levelAnswer levelList byArcList littleEndian signed64 inBytes bits64 entries
     arcRow memberRow trailer arcOffset memberOffset jobArcs jobMembers version formCheck fillersFrom sharesCheck
     valuesCheck jobCheck decimalIn decimal signedDecimal

@@ -1,5 +1,5 @@
 -- The caps in a pass over the members that puts each one at its vertex.
-use Prim.Native.Nat.{ℕ, zero, suc, _+_, _≤_, _<_}
+use Prim.Native.Nat.{ℕ, suc, _+_, _≤_, _<_}
 use mathlib.Core.Path.{_≡_, sym, ap, ap₂, _∙_, fun-ext}
 use mathlib.Core.Bool.{Bool, true, false}
 use mathlib.Core.Logic.{⊎-elim}
@@ -15,6 +15,8 @@ use Rattle.game.specs.Network.{Network, sumBelow, number, memberCount, members}
 use Rattle.game.specs.Tree.{ofArc}
 use Rattle.basics.proofs.Bools.{both, same-test, pick-yes, pick-no, pick-zero, pick-le}
 use Rattle.basics.proofs.Sums.{In, sum-cong, sum-bound}
+use Rattle.basics.proofs.Lists.{list-is, list-length}
+use Rattle.game.proofs.ArcEntries.{of-list}
 use Rattle.game.proofs.Numbering.{members-length, member-at, Vertex, vertex-of}
 use Rattle.game.proofs.Overpayment.{number-lt}
 use Rattle.game.proofs.LevelList.{view, view-off}
@@ -109,39 +111,47 @@ module _ (n : Network) (caps : List ℕ) where
                 ];
           }
 
-    module _ {out : List ℕ} {j : ℕ} (all : length vertices ≤ j) (s : Placing out j) where
-      -- after the last member
-      placing-end : (v : ℕ) → In (n .arcs) v → ofArc out v ≡ view n caps v
-      placing-end zero i = absurd (omega arith)
-      placing-end (suc u) i =
-          s .placed u (omega arith)
-          ∙ ⊎-elim
-          (λ (m : n .member (suc u) ≡ true).
-          pick-yes (view n caps (suc u))
-          (lt-ltb (number n (suc u)) j (omega (arith, number-lt n (suc u) i m, member-count n listed))))
-          (λ (m : n .member (suc u) ≡ false). no-cap (suc u) (ltb (number n (suc u)) j) i m
-          ∙ sym (view-off n caps (suc u) i m))
-          (both (n .member (suc u)))
+    -- after the last member
+    pub placing-end : {out : List ℕ} {j : ℕ} → length vertices ≤ j → Placing out j → out ≡ list (n .arcs) (view n caps)
+    placing-end {out} {j} all s =
+        list-is (view n caps) 0 (n .arcs) out (s .kept)
+        (λ u l.
+        s .placed u l
+        ∙ ⊎-elim
+        (λ (m : n .member (suc u) ≡ true).
+        pick-yes (view n caps (suc u))
+        (lt-ltb (number n (suc u)) j (omega (arith, number-lt n (suc u) (omega arith) m, member-count n listed))))
+        (λ (m : n .member (suc u) ≡ false). no-cap (suc u) (ltb (number n (suc u)) j) (omega arith) m
+        ∙ sym (view-off n caps (suc u) (omega arith) m))
+        (both (n .member (suc u))))
 
-      pub placing-fits : {k : ℕ} → n .arcs ≤ mostArcs → Capped k caps → sum (length out) (ofArc out) ≤ mostTotal
-      placing-fits few c =
-          omega (
-            arith,
-            ap (λ (m : ℕ). sum m (ofArc out)) (s .kept),
-            sum-bound (n .arcs) mostShare {f = ofArc out}
-                (λ v i. omega (
-                  arith,
-                  placing-end v i,
-                  pick-le (n .member v) (getD caps (number n v) 0),
-                  c .limited (number n v),
-                )),
-          )
+-- the caps at their arcs, and their sums
+module _ (n : Network) (caps : List ℕ) {out : List ℕ} (placed : out ≡ list (n .arcs) (view n caps)) where
+  pub placed-sized : length out ≡ n .arcs
+  placed-sized = ap length placed ∙ list-length (view n caps) (n .arcs)
 
-      pub placing-sums : list (n .arcs) (sumBelow n (ofArc out)) ≡ list (n .arcs) (capSum n caps)
-      placing-sums = ap (list (n .arcs)) (fun-ext (λ k. below-cong n (ofArc out) (view n caps) k placing-end))
+  pub placed-at : (v : ℕ) → In (n .arcs) v → ofArc out v ≡ view n caps v
+  placed-at v i = ap (λ (l : List ℕ). ofArc l v) placed ∙ of-list (n .arcs) (view n caps) v i
 
-      pub placing-total : Capped (length vertices) caps → sum (length out) (ofArc out) ≡ allCaps caps
-      placing-total c =
-          ap (λ (m : ℕ). sum m (ofArc out)) (s .kept)
-          ∙ sum-cong (n .arcs) placing-end
-          ∙ sym (all-caps-by-vertex n caps (c .sized ∙ member-count n listed))
+  pub placed-fits : {k : ℕ} → n .arcs ≤ mostArcs → Capped k caps → sum (length out) (ofArc out) ≤ mostTotal
+  placed-fits few c =
+      omega (
+        arith,
+        ap (λ (m : ℕ). sum m (ofArc out)) placed-sized,
+        sum-bound (n .arcs) mostShare {f = ofArc out}
+            (λ v i. omega (
+              arith,
+              placed-at v i,
+              pick-le (n .member v) (getD caps (number n v) 0),
+              c .limited (number n v),
+            )),
+      )
+
+  pub placed-sums : list (n .arcs) (sumBelow n (ofArc out)) ≡ list (n .arcs) (capSum n caps)
+  placed-sums = ap (list (n .arcs)) (fun-ext (λ k. below-cong n (ofArc out) (view n caps) k placed-at))
+
+  pub placed-total : length caps ≡ memberCount n → sum (length out) (ofArc out) ≡ allCaps caps
+  placed-total e =
+      ap (λ (m : ℕ). sum m (ofArc out)) placed-sized
+      ∙ sum-cong (n .arcs) placed-at
+      ∙ sym (all-caps-by-vertex n caps e)

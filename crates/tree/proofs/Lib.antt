@@ -1,6 +1,7 @@
 pub mod Carry
 pub mod Bounds
 pub mod MemberPass
+pub mod InwardPass
 mod SumPass
 pub mod CapPass
 pub mod UsePass

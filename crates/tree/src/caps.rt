@@ -1,5 +1,5 @@
-// The cap sums of all arcs: the members' caps at their vertices, added up from child to parent.
-use crate::constant::write_all;
+// The cap sums of all arcs: the members' caps at their arcs, added up from child to parent.
+use crate::placed::write_at_members;
 use crate::sums::add_up;
 ghost use mathlib.Core.Path.{_≡_};
 ghost use mathlib.Core.List.{[]};
@@ -20,12 +20,6 @@ pub fn write_cap_sums(parents: &[u16], vertices: &[u16], caps: &[u64], out: &mut
         ≡ list (length (now (parents .entry)))
         (capSum (networkAt (now (parents .entry)) [] (now (vertices .entry))) (now (caps .entry))) ⌝ }
 {
-    write_all(out, 0);
-    let mut j = 0;
-    while j < vertices.len() {
-        let place = vertices[j] as usize - 1;
-        out[place] = caps[j];
-        j += 1;
-    }
+    write_at_members(parents, vertices, caps, out);
     add_up(parents, out)
 }

@@ -7,7 +7,7 @@ use lib.ListN.{length}
 use denote.Ref.{now}
 use Rattle.answer_forms.specs.Answer.{accepted}
 use Rattle.answer_forms.specs.Checked.{checkOf}
-use Rattle.answers.specs.Checks.{arcByArc, arcCheck}
+use Rattle.answers.specs.Checks.{oneByOne, arcCheck}
 use Rattle.checks.proofs.Arcs.{arc-here, arcs-on, arcs-stop}
 use Rattle.checks.proofs.plain.check_arcs.Statement.{statement}
 use Rattle.checks.proofs.plain.check_arcs.Tie as tie
@@ -16,13 +16,13 @@ abbrev Inv-loop : tie.InvT-loop
 Inv-loop parents costs i₀ i =
     (i ≤ length parents)
     × (length parents ≡ length costs)
-    × (arcByArc (arcCheck parents costs) i ≡ accepted)
+    × (oneByOne (arcCheck parents costs) i ≡ accepted)
 
 abbrev μ-loop : tie.MeasureT-loop
 μ-loop parents costs i₀ i = length parents - i
 
 loop-holds : tie.Need-loop-holds Inv-loop μ-loop
-unfolding arcByArc
+unfolding oneByOne
 loop-holds c = (omega arith, c .before .before .pre, refl)
 
 -- the turn's start, from where its arc was looked at
@@ -56,7 +56,7 @@ returns-2 : tie.Need-returns-2 Inv-loop μ-loop
 returns-2 c =
     let at = c .before .loop in
     let all : at .i ≡ length (now (c .before .before .before .before .args .parents)) = omega (arith, at .inv .0) in
-    sym (ap (arcByArc _) (sym all) ∙ at .inv .2)
+    sym (ap (oneByOne _) (sym all) ∙ at .inv .2)
 
 pub check-arcs-spec : {M : Type 1} → statement M
 check-arcs-spec =

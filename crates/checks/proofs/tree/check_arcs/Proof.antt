@@ -11,7 +11,7 @@ use Rattle.answer_forms.specs.Checked.{checkOf}
 use Rattle.limits.specs.Limits.{mostArcs}
 use Rattle.game.specs.Tree.{hasChild}
 use Rattle.answer_forms.specs.Answer.{Check, accepted, _then_}
-use Rattle.answers.specs.Checks.{arcByArc, arcCheck, markCheck}
+use Rattle.answers.specs.Checks.{oneByOne, arcCheck, markCheck}
 use Rattle.checks.proofs.Arcs.{marked-here, arcs-on, arcs-stop}
 use Rattle.checks.proofs.tree.check_arcs.Statement.{statement}
 use Rattle.checks.proofs.tree.check_arcs.Tie as tie
@@ -26,13 +26,13 @@ Inv-loop parents costs marks has-child i₀ i =
     × (length parents ≡ length costs)
     × (length parents ≡ length marks)
     × ((v : ℕ) → 1 ≤ v → v ≤ mostArcs → getD has-child v false ≡ hasChild parents v)
-    × (arcByArc (at-arc parents costs marks) i ≡ accepted)
+    × (oneByOne (at-arc parents costs marks) i ≡ accepted)
 
 abbrev μ-loop : tie.MeasureT-loop
 μ-loop parents costs marks has-child i₀ i = length parents - i
 
 loop-holds : tie.Need-loop-holds Inv-loop μ-loop
-unfolding arcByArc
+unfolding oneByOne
 loop-holds c =
     let pre = c .before .before .before .before .pre in
     (omega arith, pre .0, pre .1 .0, pre .1 .1, c .find-children .ensures, refl)
@@ -82,7 +82,7 @@ returns-2 : tie.Need-returns-2 Inv-loop μ-loop
 returns-2 c =
     let at = c .before .loop in
     let all : at .i ≡ length (now (start (c .before) .args .parents)) = omega (arith, at .inv .0) in
-    sym (ap (arcByArc _) (sym all) ∙ at .inv .5)
+    sym (ap (oneByOne _) (sym all) ∙ at .inv .5)
 
 pub check-arcs-spec : {M : Type 1} → statement M
 check-arcs-spec =

@@ -8,9 +8,10 @@ use Rattle.game.specs.Margin.{raised}
 use Rattle.limits.specs.Inner.{mostWhole}
 use Rattle.limits.specs.Limits.{mostArcs}
 use Rattle.tree.specs.Passes.{networkAt}
+use Rattle.tree.proofs.InwardPass.{Passing, passing-start, passing-on, passing-end}
 use Rattle.margin.specs.Passes.{Given}
 use Rattle.margin.proofs.Given.{needs-sized, counts-sized, need-fits}
-use Rattle.margin.proofs.RaisePass.{Raising, raising-start, raising-at, raising-carry, raising-on, raising-end}
+use Rattle.margin.proofs.RaisePass.{raising-at, raising-carry}
 use Rattle.margin.proofs.raise.write_raised.Statement.{statement}
 use Rattle.margin.proofs.raise.write_raised.Tie as tie
 
@@ -22,7 +23,7 @@ Inv-loop parents costs vertices needs counts margin out₀ users below₀ k₀ o
     × (0 < k)
     × (k ≤ length parents + 1)
     × (length parents ≤ mostArcs)
-    × Raising parents costs vertices margin out below (k - 1)
+    × Passing parents (raised (networkAt parents costs vertices) margin) out below (k - 1)
 
 abbrev μ-loop : tie.MeasureT-loop
 μ-loop parents costs vertices needs counts margin out₀ users below₀ k₀ out below k = k
@@ -43,7 +44,7 @@ loop-holds c =
       omega arith,
       omega arith,
       pre .0 .sound .few,
-      raising-start _ _ _ _ (omega arith) (pre .1 .1),
+      passing-start _ _ (omega arith) (pre .1 .1),
     )
 
 -- the arc that is looked at has a place in every list
@@ -118,7 +119,7 @@ loop-again c =
       omega arith,
       omega arith,
       inv .5,
-      raising-on _ _ _ _ (inv .0) (omega arith) (omega arith) (inv .6) (raised-here (c .before)),
+      passing-on _ _ (inv .0 .sound) (omega arith) (omega arith) (inv .6) (raised-here (c .before)),
     )
 
 same-length : tie.Need-same-length Inv-loop μ-loop
@@ -127,7 +128,7 @@ same-length c =
     c .before .loop .inv .6 .written .kept ∙ sym (pre .1 .1)
 
 returns : tie.Need-returns Inv-loop μ-loop
-returns c = raising-end _ _ _ _ (omega arith) (c .before .loop .inv .6)
+returns c = passing-end _ _ (omega arith) (c .before .loop .inv .6)
 
 pub write-raised-spec : {M : Type 1} → statement M
 write-raised-spec =

@@ -1,107 +1,48 @@
-use Prim.Native.Nat.{ℕ, _-_}
-use mathlib.Core.Path.{ap, _∙_}
-use mathlib.Core.List.{[]}
-use lib.ListN.{length, getD, replicate}
-use denote.Ref.{now}
+use Prim.Native.Nat.{ℕ}
+use mathlib.Core.Path.{_∙_}
+use mathlib.Core.List.{List, []}
 use native.Mathlib.Omega.{arith}
 use borrow.Author.Needs.{needs}
-use Rattle.game.specs.Network.{sumBelow}
-use Rattle.basics.proofs.Sums.{In}
-use Rattle.tree.specs.Passes.{Sound, Listed, networkAt}
-use Rattle.tree.proofs.CapPass.{Placing, placing-start, member-in, placing-on}
-use Rattle.tree.proofs.CapPass.{placing-fits, placing-total, placing-sums}
+use denote.Ref.{now}
+use Rattle.game.specs.Network.{Network, sumBelow}
+use Rattle.tree.specs.Passes.{networkAt}
+use Rattle.tree.proofs.CapPass.{member-count, placed-sized, placed-fits, placed-total, placed-sums}
 use Rattle.tree.proofs.caps.write_cap_sums.Statement.{statement}
 use Rattle.tree.proofs.caps.write_cap_sums.Tie as tie
 
-abbrev Inv-loop : tie.InvT-loop
-Inv-loop parents vertices caps out₀ j₀ out j =
-    Sound parents × Listed parents vertices × Placing (networkAt parents [] vertices) caps out j
+abbrev Placed : Type 0
+Placed = tie.After-write-at-members
 
-abbrev μ-loop : tie.MeasureT-loop
-μ-loop parents vertices caps out₀ j₀ out j = length vertices - j
-
-abbrev start : tie.After-write-all Inv-loop μ-loop → tie.Start Inv-loop μ-loop
+abbrev start : Placed → tie.Start
 start c = c .before .before .before .before .before .before
 
--- where the list was filled with zeros, from the loop
-abbrev filled : tie.At-loop Inv-loop μ-loop → tie.After-write-all Inv-loop μ-loop
-filled at = at .before .before .before
+abbrev caps : Placed → List ℕ
+caps c = now (start c .args .caps)
 
-loop-holds : tie.Need-loop-holds Inv-loop μ-loop
-loop-holds c =
-    let called = c .before .before in
-    let pre = start called .pre in
-    let zeros = called .write-all .ensures ∙ ap (λ (m : ℕ). replicate m 0) (pre .1 .1 .1) in
-    (pre .0, pre .1 .0, placing-start _ _ zeros)
+abbrev net : Placed → Network
+net c = networkAt (now (start c .args .parents)) [] (now (start c .args .vertices))
 
--- the turn's member stands at an arc
-member-here : (c : tie.In-loop Inv-loop μ-loop)
-    → let args = start (filled (c .before)) .args in
-    In (length (now (args .parents))) (getD (now (args .vertices)) (c .before .loop .j) 0)
-member-here c =
-    let args = start (filled (c .before)) .args in
-    member-in (networkAt (now (args .parents)) [] (now (args .vertices))) (c .before .loop .inv .1 .are) _
-    (c .loop-test .taken)
-
-cast-place : tie.Need-cast-place Inv-loop μ-loop
-cast-place c = omega (arith, c .shared-slice-known4 .given (c .before .before .loop .j))
-
-sub-place : tie.Need-sub-place Inv-loop μ-loop
-sub-place c = omega (arith, member-here (c .before))
-
-mul-out-2 : tie.Need-mul-out-2 Inv-loop μ-loop
-mul-out-2 c = omega (arith, member-here (c .before .before), c .before .before .before .loop .inv .0 .few)
-
-slice-write-out : tie.Need-slice-write-out Inv-loop μ-loop
-slice-write-out c = omega (arith, member-here (c .before .before), c .before .before .before .loop .inv .2 .kept)
-
-loop-again : tie.Need-loop-again Inv-loop μ-loop
-loop-again c =
-    let turn = c .before .before in
-    let inv = turn .before .loop .inv in (
-      inv .0,
-      inv .1,
-      placing-on _ _ (inv .1 .are) _ _ (turn .loop-test .taken) (omega (arith, member-here turn)) (inv .2),
-    )
-
-add-up-requires : tie.Need-add-up-requires Inv-loop μ-loop
+add-up-requires : tie.Need-add-up-requires
 add-up-requires c κs =
-    let at = c .before .before in
-    let inv = at .loop .inv in
-    let pre = start (filled at) .pre in
-    let fits = placing-fits _ _ (inv .1 .are) (omega arith) (inv .2) (inv .0 .few) (pre .1 .1 .0) in
-    (inv .0, (inv .2 .kept, omega (arith, fits)))
+    let placed = c .before .before .before in
+    let pre = start placed .pre in
+    let written = placed .write-at-members .ensures in
+    let fits = placed-fits (net placed) (caps placed) written (pre .0 .few) (pre .1 .1 .0) in
+    (pre .0, (placed-sized (net placed) (caps placed) written, omega (arith, fits)))
 
-returns : tie.Need-returns Inv-loop μ-loop
+returns : tie.Need-returns
 unfolding sumBelow
 returns c =
-    let at = c .before .before .before .before .before in
-    let inv = at .loop .inv in
-    let sums = c .before .before .add-up .ensures in
-    let pre = start (filled at) .pre in (
-      sums .0 ∙ placing-total _ _ (inv .1 .are) (omega arith) (inv .2) (pre .1 .1 .0),
-      sums .1 ∙ placing-sums _ _ (inv .1 .are) (omega arith) (inv .2),
+    let summed = c .before .before in
+    let placed = summed .before .before .before .before in
+    let pre = start placed .pre in
+    let written = placed .write-at-members .ensures in
+    let sums = summed .add-up .ensures in (
+      sums .0
+          ∙ placed-total (net placed) (caps placed) written
+          (pre .1 .1 .0 .sized ∙ member-count (net placed) (pre .1 .0 .are)),
+      sums .1 ∙ placed-sums (net placed) (caps placed) written,
     )
 
 pub write-cap-sums-spec : {M : Type 1} → statement M
-write-cap-sums-spec =
-    tie.close
-    (tie.spec
-    Inv-loop
-    μ-loop
-    (λ c κs. search needs)
-    loop-holds
-    (λ c. search needs)
-    (λ c. search needs)
-    cast-place
-    sub-place
-    (λ c. search needs)
-    (λ c. search needs)
-    mul-out-2
-    slice-write-out
-    (λ c. search needs)
-    (λ c. search needs)
-    loop-again
-    add-up-requires
-    (λ c. search needs)
-    returns)
+write-cap-sums-spec = tie.close (tie.spec (λ c κs. search needs) add-up-requires (λ c. search needs) returns)

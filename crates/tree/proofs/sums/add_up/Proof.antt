@@ -7,7 +7,8 @@ use borrow.Author.Needs.{needs}
 use Rattle.basics.specs.Sum.{sum}
 use Rattle.game.specs.Tree.{ofArc}
 use Rattle.tree.specs.Passes.{Sound}
-use Rattle.tree.proofs.SumPass.{total, Summing, summing-start, summing-on, summing-end}
+use Rattle.tree.proofs.InwardPass.{passing-end}
+use Rattle.tree.proofs.SumPass.{total, Summing, summing-start, summing-on}
 use Rattle.tree.proofs.SumPass.{summing-at, summing-fits, summing-carry, summing-whole}
 use Rattle.tree.proofs.sums.add_up.Statement.{statement}
 use Rattle.tree.proofs.sums.add_up.Tie as tie
@@ -95,7 +96,7 @@ array-read-result : tie.Need-array-read-result Inv-loop μ-loop
 array-read-result c = omega arith
 
 same-length : tie.Need-same-length Inv-loop μ-loop
-same-length c = c .before .loop .inv .4 .written .kept ∙ sym (c .before .before .pre .1 .0)
+same-length c = c .before .loop .inv .4 .passing .written .kept ∙ sym (c .before .before .pre .1 .0)
 
 returns : tie.Need-returns Inv-loop μ-loop
 returns c =
@@ -103,7 +104,7 @@ returns c =
     let start = c .before .before in
     let xs = start .args .out .now in (
       summing-whole _ _ (inv .0) (omega arith) (inv .4) ∙ ap (λ (m : ℕ). sum m (ofArc xs)) (sym (start .pre .1 .0)),
-      summing-end _ _ (omega arith) (inv .4),
+      passing-end _ _ (omega arith) (inv .4 .passing),
     )
 
 pub add-up-spec : {M : Type 1} → statement M
