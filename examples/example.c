@@ -52,9 +52,10 @@ static void print_shares(const char *name, const uint64_t *shares, size_t member
     }
 }
 
-static void level(const uint64_t caps[MEMBERS]) {
+static void level(const uint64_t caps[MEMBERS], const uint64_t floors[MEMBERS]) {
     uint64_t shares[MEMBERS] = {0};
-    ZilqodurLevel l = zilqodur_split_level(parents, ARCS, costs, ARCS, marks, ARCS, caps, MEMBERS, shares, MEMBERS);
+    ZilqodurLevel l = zilqodur_split_level(parents, ARCS, costs, ARCS, marks, ARCS, caps, MEMBERS, floors, MEMBERS,
+                                           shares, MEMBERS);
     if (l.refusal != ZILQODUR_NO_REFUSAL) {
         print_refusal("level", l.refusal, l.place);
         printf(" short %" PRIu64, l.shortfall);
@@ -111,8 +112,10 @@ int main(void) {
     audit((const int64_t[MEMBERS]){8, 4, 4});
     audit((const int64_t[MEMBERS]){8, 4, 5});
     audit((const int64_t[MEMBERS]){8, 4, 2000000000001});
-    level((const uint64_t[MEMBERS]){100, 100, 100});
-    level((const uint64_t[MEMBERS]){3, 8, 100});
+    const uint64_t no_floors[MEMBERS] = {0};
+    level((const uint64_t[MEMBERS]){100, 100, 100}, no_floors);
+    level((const uint64_t[MEMBERS]){3, 8, 100}, no_floors);
+    level((const uint64_t[MEMBERS]){100, 100, 100}, (const uint64_t[MEMBERS]){0, 7, 0}); /* member 1 pays at least 7 */
     by_arc(m.members);
     marks[2] = 0; /* vertex 3 is a plot that is not yet sold: nobody pays for its arc */
     by_arc(m.members - 1);

@@ -119,6 +119,8 @@ unsafe extern "C" {
         marks_count: usize,
         caps: *const u64,
         caps_count: usize,
+        floors: *const u64,
+        floors_count: usize,
         out: *mut u64,
         out_count: usize,
     ) -> ZilqodurLevel;
@@ -203,7 +205,7 @@ fn find_group(marks: &[u16], proposal: &[i64]) -> ZilqodurSearch {
     }
 }
 
-fn split_level(marks: &[u16], caps: &[u64], out: &mut [u64]) -> ZilqodurLevel {
+fn split_level(marks: &[u16], caps: &[u64], floors: &[u64], out: &mut [u64]) -> ZilqodurLevel {
     // Safety: each pointer and count are those of one slice, and `out` is borrowed alone.
     unsafe {
         zilqodur_split_level(
@@ -215,6 +217,8 @@ fn split_level(marks: &[u16], caps: &[u64], out: &mut [u64]) -> ZilqodurLevel {
             marks.len(),
             caps.as_ptr(),
             caps.len(),
+            floors.as_ptr(),
+            floors.len(),
             out.as_mut_ptr(),
             out.len(),
         )
@@ -289,9 +293,9 @@ fn print_audit(marks: &[u16], proposal: &[i64]) {
     }
 }
 
-fn print_level(marks: &[u16], caps: &[u64]) {
+fn print_level(marks: &[u16], caps: &[u64], floors: &[u64]) {
     let mut shares = [0; 3];
-    let l = split_level(marks, caps, &mut shares);
+    let l = split_level(marks, caps, floors, &mut shares);
     if l.refusal != 0 {
         println!("level refused {} at {} short {}", l.refusal, l.place, l.shortfall);
     } else {
@@ -347,8 +351,10 @@ fn main() {
     print_audit(&marks, &[8, 4, 4]);
     print_audit(&marks, &[8, 4, 5]);
     print_audit(&marks, &[8, 4, 2_000_000_000_001]);
-    print_level(&marks, &[100, 100, 100]);
-    print_level(&marks, &[3, 8, 100]);
+    print_level(&marks, &[100, 100, 100], &[0, 0, 0]);
+    print_level(&marks, &[3, 8, 100], &[0, 0, 0]);
+    // Member 1 pays at least 7.
+    print_level(&marks, &[100, 100, 100], &[0, 7, 0]);
     print_by_arc(&marks, m.members);
     // Vertex 3 is a plot that is not yet sold: nobody pays for its arc.
     marks[2] = 0;

@@ -32,8 +32,8 @@
  *   - no two lists of one call overlap;
  *   - nobody else writes to the lists during the call;
  *   - 240,000 bytes of the stack are free for zilqodur_commit, zilqodur_ask and zilqodur_make_state, which take 214,000, 197,000 and
- *     140,000 of them, 170,000 for zilqodur_report, which takes 158,000, 150,000 for zilqodur_split_margin and zilqodur_split_level,
- *     which take 123,000 and 104,000, and 100,000 for the others, of which every one takes at most 40,000. A state is 16,392 bytes,
+ *     140,000 of them, 190,000 for zilqodur_report, which takes 173,000, 150,000 for zilqodur_split_margin and zilqodur_split_level,
+ *     which take 123,000 and 113,000, and 100,000 for the others, of which every one takes at most 40,000. A state is 16,392 bytes,
  *     wherever it is handed over or comes back; those bytes are counted in.
  *
  * No function keeps anything between calls, allocates memory or does input or output; calls from several threads are safe. Link with
@@ -76,7 +76,9 @@ enum ZilqodurRefusal {
     ZILQODUR_QUOTE_NUMBER = 23,
     ZILQODUR_EVENT_COUNT = 24,
     ZILQODUR_BRANCH_ARC = 25, /* [arc] */
-    ZILQODUR_BRANCH_USERS = 26 /* [arc] */
+    ZILQODUR_BRANCH_USERS = 26, /* [arc] */
+    ZILQODUR_FLOOR_ABOVE_CAP = 27, /* [lowest such member] */
+    ZILQODUR_FLOORS_ABOVE_NEED = 28 /* [arc] */
 };
 
 /* What a refusal's number says, as a sentence for a person. The strings are constants; nobody frees them. */
@@ -88,10 +90,10 @@ static inline const char *zilqodur_refusal_text(uint32_t refusal) {
         case ZILQODUR_PARENT: return "a parent is not below its arc's number";
         case ZILQODUR_COST: return "a cost is above 1,000,000,000";
         case ZILQODUR_GROUP_BIT: return "the group has a bit at or beyond the number of members";
-        case ZILQODUR_LIST_LENGTH: return "the caps or the proposal do not have one entry a member";
-        case ZILQODUR_LIST_RANGE: return "a cap or a proposed share is outside its range";
+        case ZILQODUR_LIST_LENGTH: return "the caps, the floors or the proposal do not have one entry a member";
+        case ZILQODUR_LIST_RANGE: return "a cap, a floor or a proposed share is outside its range";
         case ZILQODUR_OUTPUT_LENGTH: return "the output list is not exactly as long as what is written";
-        case ZILQODUR_CAPS_SHORT: return "the caps of an arc's users add up to less than its need";
+        case ZILQODUR_CAPS_SHORT: return "the caps of an arc's users add up to less than its adjusted need";
         case ZILQODUR_JOB_ROOM: return "a list for the job's values has fewer than 1,023 entries";
         case ZILQODUR_JOB_SIZE: return "the job has fewer than 16 or more than 24,823 bytes";
         case ZILQODUR_JOB_SIGNATURE: return "the job's version or closing bytes are wrong";
@@ -109,6 +111,8 @@ static inline const char *zilqodur_refusal_text(uint32_t refusal) {
         case ZILQODUR_EVENT_COUNT: return "1,000,000 events or more are committed";
         case ZILQODUR_BRANCH_ARC: return "the arc is not one that leaves the source";
         case ZILQODUR_BRANCH_USERS: return "the arc has fewer than two users";
+        case ZILQODUR_FLOOR_ABOVE_CAP: return "a floor is above its cap";
+        case ZILQODUR_FLOORS_ABOVE_NEED: return "the adjusted need of an arc from the source is above its need";
         default: return "no refusal has this number";
     }
 }
@@ -314,12 +318,17 @@ ZilqodurCapSums zilqodur_list_cap_sums(const uint16_t *parents, size_t parents_c
                                        const uint16_t *marks, size_t marks_count, const uint64_t *caps, size_t caps_count,
                                        uint64_t *out, size_t out_count);
 
-/* Writes the level split: arcs from m down to 1, each unit of an arc's cost to the user with the smallest share among users below their
- * cap, ties to the lowest member number. `caps` has one cap a member, each from 0 to 2,000,000,000,000; `out` has one entry a member.
- * Refusals: the tree's, 6, 7, 8, 9; 9 is at the first arc in this order whose users' caps add up to less than its need. */
+/* Writes the level split under caps and floors: no share is above its member's cap or below its floor. An arc's adjusted need is, at a
+ * member's arc, its cost or the member's floor, elsewhere its need or what the adjusted needs of its child arcs add up to, whichever is
+ * larger, and 0 where nobody uses it. From arc m down to 1, each arc gives out what its adjusted need exceeds that sum by, so its cost
+ * where all floors are 0, each unit to the user with the smallest share among users below their cap, ties to the lowest member number.
+ * `caps` and `floors` have one entry a member, each from 0 to 2,000,000,000,000; `out` has one entry a member. Refusals: the tree's, 6 and
+ * 7 on caps, 6 and 7 on floors, 27, 8, and then, at the first arc from m down to 1 where one of them stands, 9 or 28. 9 stands where the
+ * caps of an arc's users add up to less than its adjusted need, which at the first such arc is its need; 28 where an arc leaves the source
+ * and its adjusted need is above its need. */
 ZilqodurLevel zilqodur_split_level(const uint16_t *parents, size_t parents_count, const uint32_t *costs, size_t costs_count,
                                    const uint16_t *marks, size_t marks_count, const uint64_t *caps, size_t caps_count,
-                                   uint64_t *out, size_t out_count);
+                                   const uint64_t *floors, size_t floors_count, uint64_t *out, size_t out_count);
 
 /* Writes the by-arc split: from arc m down to 1, an arc with k users and cost c gives each user c / k, and the c % k units left over one
  * each to those of its users who have had the fewest leftover units so far, ties to the lowest member number; an arc without users is

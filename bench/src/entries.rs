@@ -10,13 +10,14 @@ use crate::{best, ffi, same};
 use std::hint::black_box;
 
 #[rustfmt::skip]
-pub const ENTRIES: [&str; 14] = [
+pub const ENTRIES: [&str; 15] = [
     "needs", "total", "group search", "by-arc", "level", "job reader", "dead ends", "cap sums",
-    "job length", "job writer", "make state", "ask", "commit", "margin",
+    "job length", "job writer", "make state", "ask", "commit", "margin", "level, floors",
 ];
 
 pub const LEVEL: usize = 4;
 pub const MARGIN: usize = 13;
+pub const FLOORS: usize = 14;
 
 /// Microseconds of a call.
 #[derive(Clone, Copy)]
@@ -90,7 +91,7 @@ fn written<E: Clone + From<u8>, T>(length: usize, call: impl Fn(&mut [E]) -> T) 
 
 /// Panics where two answers or lists differ.
 pub fn compare(n: &Network) {
-    let (p, c, m, caps) = (&n.parents[..], &n.costs[..], &n.marks[..], &n.caps[..]);
+    let (p, c, m) = (&n.parents[..], &n.costs[..], &n.marks[..]);
     assert_eq!(
         written(p.len(), |out| ffi::list_needs(p, c, m, out)),
         written(p.len(), |out| same::list_needs(p, c, m, out)),
@@ -100,19 +101,15 @@ pub fn compare(n: &Network) {
         written(n.members, |out| ffi::split_by_arc(p, c, m, out)),
         written(n.members, |out| same::split_by_arc(p, c, m, out)),
     );
-    let level = written(n.members, |out| ffi::split_level(p, c, m, caps, out));
-    let same = written(n.members, |out| same::split_level(p, c, m, caps, out));
-    assert_eq!(level, same);
-    let best = written(n.members, |out| best::split_level(p, c, m, caps, out));
-    assert_eq!(level, best);
     assert_eq!(
         written(p.len(), |out| ffi::mark_dead_ends(p, c, out)),
         written(p.len(), |out| same::mark_dead_ends(p, c, out)),
     );
     assert_eq!(
-        written(p.len(), |out| ffi::list_cap_sums(p, c, m, caps, out)),
-        written(p.len(), |out| same::list_cap_sums(p, c, m, caps, out)),
+        written(p.len(), |out| ffi::list_cap_sums(p, c, m, &n.caps, out)),
+        written(p.len(), |out| same::list_cap_sums(p, c, m, &n.caps, out)),
     );
+    compare_levels(n);
     compare_margins(n);
     compare_jobs(n);
     compare_states(n);
@@ -128,6 +125,25 @@ fn compare_proposals(n: &Network) {
             same::check_total(p, c, m, &x)
         );
         assert_eq!(ffi::find_group(p, c, m, &x), same::find_group(p, c, m, &x));
+    }
+}
+
+type Split = fn(&[u16], &[u32], &[u16], &[u64], &[u64], &mut [u64]) -> ffi::ZilqodurLevel;
+
+/// No floors, floors that can be kept where the caps can, the caps themselves,
+/// and a floor above its cap.
+fn compare_levels(n: &Network) {
+    let mut above = n.floors.clone();
+    above[n.members - 1] = n.caps[n.members - 1] + 1;
+    for floors in [&n.no_floors, &n.floors, &n.caps, &above] {
+        let side = |split: Split| {
+            written(n.members, |out| {
+                split(&n.parents, &n.costs, &n.marks, &n.caps, floors, out)
+            })
+        };
+        let level = side(ffi::split_level);
+        assert_eq!(level, side(same::split_level));
+        assert_eq!(level, side(best::split_level));
     }
 }
 
@@ -238,14 +254,26 @@ fn by_arc(n: &Network) -> Calls<'_> {
     ]
 }
 
+fn level_with<'a>(n: &'a Network, floors: &'a [u64]) -> Calls<'a> {
+    let side = |split: Split| -> Box<dyn FnMut() + 'a> {
+        let mut out = vec![0; n.members];
+        Box::new(move || {
+            let parents = black_box(&n.parents[..]);
+            used(split(
+                parents, &n.costs, &n.marks, &n.caps, floors, &mut out,
+            ))
+        })
+    };
+    let sides: [Split; 3] = [ffi::split_level, same::split_level, best::split_level];
+    sides.map(side).into()
+}
+
 fn level(n: &Network) -> Calls<'_> {
-    let (p, c, m, caps) = (&n.parents[..], &n.costs[..], &n.marks[..], &n.caps[..]);
-    let (mut a, mut b, mut d) = (vec![0; n.members], vec![0; n.members], vec![0; n.members]);
-    vec![
-        Box::new(move || used(ffi::split_level(black_box(p), c, m, caps, &mut a))),
-        Box::new(move || used(same::split_level(black_box(p), c, m, caps, &mut b))),
-        Box::new(move || used(best::split_level(black_box(p), c, m, caps, &mut d))),
-    ]
+    level_with(n, &n.no_floors)
+}
+
+fn level_floors(n: &Network) -> Calls<'_> {
+    level_with(n, &n.floors)
 }
 
 fn job(n: &Network) -> Calls<'_> {
@@ -327,9 +355,9 @@ fn margin(n: &Network) -> Calls<'_> {
 
 /// The calls of each entry, in the order of their names.
 #[rustfmt::skip]
-const CALLS: [fn(&Network) -> Calls<'_>; 14] = [
+const CALLS: [fn(&Network) -> Calls<'_>; 15] = [
     needs, total, search, by_arc, level, job, dead_ends, cap_sums, job_length, job_writer,
-    make_state, ask, commit, margin,
+    make_state, ask, commit, margin, level_floors,
 ];
 
 /// The times of one entry on each of the networks.

@@ -96,6 +96,9 @@ pub struct Network {
     /// The sum over all arcs of the number of their users.
     pub users: usize,
     pub caps: Vec<u64>,
+    /// None, and then some that can be kept where the caps can.
+    pub no_floors: Vec<u64>,
+    pub floors: Vec<u64>,
     pub proposal: Vec<i64>,
     /// What the margin is measured on, with the same costs.
     pub branched: Branched,
@@ -123,6 +126,12 @@ fn caps(rng: &mut Rng, kind: Caps, shares: &[u64], whole: u64) -> Vec<u64> {
         Caps::Greatest => AMOUNT,
     };
     shares.iter().map(cap).map(|cap| cap.min(AMOUNT)).collect()
+}
+
+/// Below the by-arc split by at most a quarter, and at most the caps.
+fn floors(rng: &mut Rng, shares: &[u64], caps: &[u64]) -> Vec<u64> {
+    let floor = |(&share, &cap): (&u64, &u64)| cap.min(share - rng.up_to(share / 4));
+    shares.iter().zip(caps).map(floor).collect()
 }
 
 /// The by-arc split with amounts moved between members.
@@ -153,6 +162,8 @@ impl Network {
         Network {
             members: shares.len(),
             users: tree.users.iter().map(Vec::len).sum(),
+            no_floors: vec![0; shares.len()],
+            floors: floors(rng, &shares, &caps),
             caps,
             proposal,
             branched: Branched::new(shape, &parents, &costs),

@@ -1,6 +1,6 @@
 //! The tables, as Markdown.
 
-use crate::entries::{Times, ENTRIES, LEVEL, MARGIN};
+use crate::entries::{Times, ENTRIES, FLOORS, LEVEL, MARGIN};
 
 /// What was measured on one network.
 pub struct Row {
@@ -61,15 +61,24 @@ pub fn print_summary(rows: &[Row]) {
     }
 }
 
-/// One entry on all networks.
-pub fn print_entry(rows: &[Row], entry: usize) {
-    println!("\n## {}\n", ENTRIES[entry]);
+/// What the entry is measured on, where the others are not.
+fn print_note(entry: usize) {
     if entry == MARGIN {
         println!("The arc is the first from the source that has at least two users. For one to have them, all of the star is");
         println!("below its first arc, and the last two arcs of the chain are side by side.\n");
     }
+    if entry == FLOORS {
+        println!("A floor is below the by-arc share by at most a quarter; under `level` all floors are 0. On the star");
+        println!("and the chain, where one list alone is in the core, no floor changes a share.\n");
+    }
+}
+
+/// One entry on all networks.
+pub fn print_entry(rows: &[Row], entry: usize) {
+    println!("\n## {}\n", ENTRIES[entry]);
+    print_note(entry);
     let (more, line) = match entry {
-        LEVEL => (" Best µs | Engine over best |", "--:|--:|"),
+        LEVEL | FLOORS => (" Best µs | Engine over best |", "--:|--:|"),
         _ => ("", ""),
     };
     println!("| Network | m | Engine µs | Same algorithm µs | Ratio |{more}");
@@ -96,12 +105,13 @@ pub fn print_growth(rows: &[Row], from: usize, to: usize) {
     print!("| Network | Arcs | needs | total | group search | dead ends | cap sums ");
     print!("| Job bytes | job reader | job length | job writer ");
     print!("| Sum of users | by-arc | make state | ask | commit ");
-    println!("| level | level, best | margin |");
-    println!("|---{}|", "|--:".repeat(18));
+    println!("| level | level, best | level, floors | level, floors, best | margin |");
+    println!("|---{}|", "|--:".repeat(20));
     let at = |arcs| rows.iter().filter(move |row| row.arcs == arcs);
     for (a, b) in at(from).zip(at(to)) {
         let engine = |entry: usize| b.times[entry].engine / a.times[entry].engine;
-        let best = |row: &Row| row.times[LEVEL].best.unwrap();
+        let of = |row: &Row, entry: usize| row.times[entry].best.unwrap();
+        let best = |entry| of(b, entry) / of(a, entry);
         let factor = |a: usize, b: usize| b as f64 / a as f64;
         print!("| {} | {:.1} ", a.network, factor(from, to));
         print!("| {:.1} | {:.1} | {:.1} ", engine(0), engine(1), engine(2));
@@ -111,7 +121,8 @@ pub fn print_growth(rows: &[Row], from: usize, to: usize) {
         print!("| {:.1} | {:.1} ", factor(a.users, b.users), engine(3));
         print!("| {:.1} | {:.1} ", engine(10), engine(11));
         print!("| {:.1} ", engine(12));
-        print!("| {:.1} | {:.1} ", engine(LEVEL), best(b) / best(a));
+        print!("| {:.1} | {:.1} ", engine(LEVEL), best(LEVEL));
+        print!("| {:.1} | {:.1} ", engine(FLOORS), best(FLOORS));
         println!("| {:.1} |", engine(MARGIN));
     }
 }

@@ -1,4 +1,4 @@
-/* The functions over lists: the tree, its members, needs and groups, the audit of a proposal, and the splits. */
+/* The functions over lists: the tree, its members, needs and groups, the audit of a proposal, and the splits but the level split. */
 #include "expect.h"
 
 #include <string.h>
@@ -48,10 +48,6 @@ static int is_found(ZilqodurSearch found, uint64_t amount, size_t size, uint64_t
 
 static int is_cap_sums(ZilqodurCapSums found, uint32_t refusal, size_t place, uint64_t total) {
     return IS(found.refusal, refusal) && IS(found.place, place) && IS(found.total, total);
-}
-
-static int is_level(ZilqodurLevel found, uint32_t refusal, size_t place, uint64_t shortfall, size_t members) {
-    return IS(found.refusal, refusal) && IS(found.place, place) && IS(found.shortfall, shortfall) && IS(found.members, members);
 }
 
 static int is_margin(ZilqodurMargin found, uint32_t refusal, size_t place, uint64_t margin, size_t users) {
@@ -184,17 +180,6 @@ static void cap_sums(void) {
     EXPECT(are(out, 12, 3, 9) && out[3] == 4);
 }
 
-static void level_splits(void) {
-    static const uint64_t caps[MEMBERS] = {3, 9, 4}, low[MEMBERS] = {3, 6, 100};
-    uint64_t out[MEMBERS] = {7, 7, 7};
-    EXPECT(is_level(zilqodur_split_level(T(marks), low, MEMBERS, out, MEMBERS), ZILQODUR_CAPS_SHORT, 1, 3, 0));
-    EXPECT(is_level(zilqodur_split_level(T(wrong_marks), caps, MEMBERS, out, MEMBERS), ZILQODUR_MARK, 3, 0, 0));
-    EXPECT(is_level(zilqodur_split_level(T(no_marks), caps, MEMBERS, out, MEMBERS), ZILQODUR_NO_MARK, 0, 0, 0));
-    EXPECT(are(out, 7, 7, 7));
-    EXPECT(is_level(zilqodur_split_level(T(marks), caps, MEMBERS, out, MEMBERS), ZILQODUR_NO_REFUSAL, 0, 0, MEMBERS));
-    EXPECT(are(out, 3, 9, 4));
-}
-
 static void by_arc_splits(void) {
     uint64_t out[MEMBERS] = {7, 7, 7};
     EXPECT(is_members(zilqodur_split_by_arc(T(marks), out, MEMBERS - 1), ZILQODUR_OUTPUT_LENGTH, 0, 0));
@@ -253,7 +238,7 @@ static void widest(void) {
 static void spare(void) {
     static const uint16_t some[ARCS] = {0, 1, 0, 1};
     static const int64_t fair[2] = {7, 4}, whole[2] = {12, 4};
-    static const uint64_t caps[2] = {100, 100}, low[2] = {6, 100};
+    static const uint64_t caps[2] = {6, 100};
     const uint64_t group[16] = {1}, beyond[16] = {4};
     uint16_t vertices[2];
     uint64_t out[ARCS], sums[ARCS] = {7, 7, 7, 7};
@@ -268,12 +253,8 @@ static void spare(void) {
     EXPECT(is_total(zilqodur_check_total(T(some), whole, 2), ZILQODUR_NO_REFUSAL, 0, ZILQODUR_OFF, 5));
     EXPECT(is_no_group(zilqodur_find_group(T(some), fair, 2)));
     EXPECT(is_found(zilqodur_find_group(T(some), whole, 2), 5, 1, 1));
-    EXPECT(is_cap_sums(zilqodur_list_cap_sums(T(some), low, 2, sums, ARCS), ZILQODUR_NO_REFUSAL, 0, 106));
+    EXPECT(is_cap_sums(zilqodur_list_cap_sums(T(some), caps, 2, sums, ARCS), ZILQODUR_NO_REFUSAL, 0, 106));
     EXPECT(are(sums, 6, 6, 0) && sums[3] == 100);
-    EXPECT(is_level(zilqodur_split_level(T(some), low, 2, out, 2), ZILQODUR_CAPS_SHORT, 1, 1, 0));
-    EXPECT(are(out, 7, 1, 0));
-    EXPECT(is_level(zilqodur_split_level(T(some), caps, 2, out, 2), ZILQODUR_NO_REFUSAL, 0, 0, 2));
-    EXPECT(are(out, 7, 4, 0));
     out[0] = out[1] = 0;
     EXPECT(is_members(zilqodur_split_by_arc(T(some), out, 2), ZILQODUR_NO_REFUSAL, 0, 2));
     EXPECT(are(out, 7, 4, 0) && out[3] == 4);
@@ -344,7 +325,6 @@ void try_lists(void) {
     totals();
     searches();
     cap_sums();
-    level_splits();
     by_arc_splits();
     refused_margins();
     margins();

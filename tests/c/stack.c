@@ -19,8 +19,8 @@
 #define COMMIT 214000
 #define ASK 197000
 #define MAKE 140000
-#define REPORT 158000
-#define LEVEL 104000
+#define REPORT 173000
+#define LEVEL 113000
 #define MARGIN 123000
 #define OTHER 40000
 
@@ -30,7 +30,7 @@
 
 static uint16_t parents[ARCS], marks[ARCS], vertices[ARCS], branch[ARCS], branch_marks[ARCS];
 static uint32_t costs[ARCS];
-static uint64_t caps[ARCS], out[ARCS], group[16];
+static uint64_t caps[ARCS], floors[ARCS], out[ARCS], group[16];
 static int64_t proposal[ARCS];
 static ZilqodurState state;
 static const ZilqodurQuote cheaper = {{1, ZILQODUR_NEW_COST, 999999999}, 0};
@@ -82,7 +82,8 @@ static uint32_t list_cap_sums(void) {
 }
 
 static uint32_t split_level(void) {
-    return zilqodur_split_level(parents, ARCS, costs, ARCS, marks, ARCS, caps, members, out, members).refusal;
+    return zilqodur_split_level(parents, ARCS, costs, ARCS, marks, ARCS, caps, members, floors, members, out, members)
+        .refusal;
 }
 
 static uint32_t split_by_arc(void) {
@@ -211,13 +212,14 @@ static void write_branch(void) {
     branch_members = zilqodur_mark_dead_ends(branch, ARCS, costs, ARCS, branch_marks, ARCS).members;
 }
 
-/* Caps that are enough, the group of all members, and a first member who pays a unit more than the whole tree costs:
- * the total is off and a group overpays. */
+/* Caps and floors that can be kept, the group of all members, and a first member who pays a unit more than the whole
+ * tree costs: the total is off and a group overpays. */
 static void write_lists(void) {
     size_t i;
     for (i = 0; i < ARCS; i++) {
         costs[i] = 1000000000;
         caps[i] = 2000000000000;
+        floors[i] = 1000000000;
     }
     members = zilqodur_mark_dead_ends(parents, ARCS, costs, ARCS, marks, ARCS).members;
     proposal[0] = INT64_C(1000000000) * ARCS + 1;

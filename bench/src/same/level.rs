@@ -2,32 +2,15 @@
 //! is level * 1024 + limit: at it a member has the level, one more where its
 //! number is below the limit, and at most its cap.
 
-use super::{
-    check_tree, count_members, write_cap_sums, write_counted, write_members, write_needs, VERTICES,
-};
+use super::floors::{check_limits, find_stop};
+use super::{check_tree, count_members, write_counted, write_members, VERTICES};
 use crate::ffi::ZilqodurLevel;
-use crate::reference::{check_caps, check_output, Answer, Refusal, AMOUNT, ARCS};
+use crate::reference::{check_output, Answer, AMOUNT, ARCS};
 
 const LAST_KEY: u64 = AMOUNT * 1024;
 
 /// Every so many rounds the middle is tried.
 const TURNS: u32 = 8;
-
-/// 9: the first arc from the last down whose users' caps are short of its need.
-fn check_short(parents: &[u16], costs: &[u32], vertices: &[u16], caps: &[u64]) -> Answer<()> {
-    let (mut needs, mut sums) = ([0; ARCS], [0; ARCS]);
-    let m = parents.len();
-    write_needs(parents, costs, &mut needs[..m]);
-    write_cap_sums(parents, vertices, caps, &mut sums[..m]);
-    match (0..m).rev().find(|&i| sums[i] < needs[i]) {
-        None => Ok(()),
-        Some(i) => Err(Refusal {
-            number: 9,
-            place: i + 1,
-            shortfall: needs[i] - sums[i],
-        }),
-    }
-}
 
 fn share_at(cap: u64, number: u64, key: u64) -> u64 {
     cap.min(key / 1024 + u64::from(number < key % 1024))
@@ -222,11 +205,20 @@ pub fn write_shares(
     }
 }
 
-fn split(parents: &[u16], costs: &[u32], vertices: &[u16], caps: &[u64], out: &mut [u64]) {
-    let mut needs = [0; ARCS];
-    let needs = &mut needs[..parents.len()];
-    write_needs(parents, costs, needs);
-    write_shares(parents, vertices, caps, needs, out);
+/// The level rule at the adjusted needs, where nothing stops it.
+fn write_level(
+    parents: &[u16],
+    costs: &[u32],
+    vertices: &[u16],
+    caps: &[u64],
+    floors: &[u64],
+    out: &mut [u64],
+) -> Answer<()> {
+    let mut adjusted = [0; ARCS];
+    let adjusted = &mut adjusted[..parents.len()];
+    find_stop(parents, costs, vertices, caps, floors, adjusted)?;
+    write_shares(parents, vertices, caps, adjusted, out);
+    Ok(())
 }
 
 fn checked(
@@ -234,6 +226,7 @@ fn checked(
     costs: &[u32],
     marks: &[u16],
     caps: &[u64],
+    floors: &[u64],
     out: &mut [u64],
 ) -> Answer<usize> {
     check_tree(parents, costs, marks)?;
@@ -241,12 +234,11 @@ fn checked(
     let counted = &mut counted[..parents.len()];
     write_counted(parents, costs, marks, counted);
     let members = count_members(marks);
-    check_caps(members, caps)?;
+    check_limits(members, caps, floors)?;
     check_output(out.len(), members)?;
     let vertices = &mut vertices[..members];
     write_members(marks, vertices);
-    check_short(parents, counted, vertices, caps)?;
-    split(parents, counted, vertices, caps, out);
+    write_level(parents, counted, vertices, caps, floors, out)?;
     Ok(members)
 }
 
@@ -271,7 +263,8 @@ pub fn split_level(
     costs: &[u32],
     marks: &[u16],
     caps: &[u64],
+    floors: &[u64],
     out: &mut [u64],
 ) -> ZilqodurLevel {
-    answer(checked(parents, costs, marks, caps, out))
+    answer(checked(parents, costs, marks, caps, floors, out))
 }

@@ -6,6 +6,7 @@ mod by_arc;
 mod cap_sums;
 mod check;
 mod dead_ends;
+mod floors;
 mod job;
 mod level;
 mod margin;
@@ -20,6 +21,7 @@ pub use by_arc::split_by_arc;
 pub use cap_sums::list_cap_sums;
 pub use check::check_tree;
 pub use dead_ends::mark_dead_ends;
+pub use floors::check_limits;
 pub use job::read_job;
 pub use level::{answer as level_answer, split_level};
 pub use margin::split_margin;
@@ -94,13 +96,18 @@ fn write_needs(parents: &[u16], costs: &[u32], out: &mut [u64]) -> u64 {
     add_up(parents, out)
 }
 
+/// Writes each member's number at its arc, and 0 at the other arcs.
+fn write_at_members(vertices: &[u16], values: &[u64], out: &mut [u64]) {
+    out.fill(0);
+    for (&vertex, &value) in vertices.iter().zip(values) {
+        out[usize::from(vertex) - 1] = value;
+    }
+}
+
 /// Writes for each arc what the caps of its users add up to; answers the sum of
 /// all caps.
 fn write_cap_sums(parents: &[u16], vertices: &[u16], caps: &[u64], out: &mut [u64]) -> u64 {
-    out.fill(0);
-    for (&vertex, &cap) in vertices.iter().zip(caps) {
-        out[usize::from(vertex) - 1] = cap;
-    }
+    write_at_members(vertices, caps, out);
     add_up(parents, out)
 }
 

@@ -15,16 +15,16 @@ pub const COST: u32 = 4;
 // The group has a bit at or beyond the number of members.
 pub const GROUP_BIT: u32 = 5;
 
-// The caps or the proposal do not have one entry a member.
+// The caps, the floors or the proposal do not have one entry a member.
 pub const LIST_LENGTH: u32 = 6;
 
-// A cap or a proposed share is outside its range.
+// A cap, a floor or a proposed share is outside its range.
 pub const LIST_RANGE: u32 = 7;
 
 // The output list is not exactly as long as what is written.
 pub const OUTPUT_LENGTH: u32 = 8;
 
-// The caps of an arc's users add up to less than its need.
+// The caps of an arc's users add up to less than its adjusted need.
 pub const CAPS_SHORT: u32 = 9;
 
 // A list for the job's values has fewer than 1,023 entries.
@@ -77,3 +77,9 @@ pub const BRANCH_ARC: u32 = 25;
 
 // The arc has fewer than two users.
 pub const BRANCH_USERS: u32 = 26;
+
+// A floor is above its cap.
+pub const FLOOR_ABOVE_CAP: u32 = 27;
+
+// The adjusted need of an arc from the source is above its need.
+pub const FLOORS_ABOVE_NEED: u32 = 28;

@@ -1,257 +1,111 @@
 -- Demand 3 about the level split's answers and lists.
-use Prim.Native.Nat.{ℕ, zero, suc, _*_, _-_, _≤_, _<_}
+use Prim.Native.Nat.{ℕ, _≤_, _<_}
 use mathlib.Core.Path.{_≡_, refl, sym, ap, _∙_, subst}
-use mathlib.Core.Bool.{Bool, true, false}
-use mathlib.Core.Logic.{⊎-elim, inl, inr}
+use mathlib.Core.Logic.{inl, inr}
 use mathlib.Core.List.{List, map}
 use native.Mathlib.Omega.{arith}
-use lib.ListN.{getD, List·getD-map, length-map}
-use lib.IntN.{ℤ, pos, negsuc, _*ℤ_}
+use lib.ListN.{getD}
+use lib.IntN.{ℤ, pos}
 use lib.Signed.{_≤ℤ_}
-use Rattle.basics.specs.Sum.{pick}
-use Rattle.game.specs.Network.{atOrBelow, need, number, memberCount, sumBelow, wholeCost}
+use Rattle.game.specs.Network.{memberCount}
 use Rattle.game.specs.Tree.{Tree, network}
-use Rattle.basics.specs.Integer.{plus, minus}
-use Rattle.game.specs.Proposal.{share}
-use Rattle.game.specs.Core.{CoreByNeed}
-use Rattle.game.specs.Level.{level}
-use Rattle.basics.proofs.Bools.{both, pick-yes, pick-no, pick-both-le}
-use Rattle.basics.proofs.Sums.{In, sum-cong, sum-mono}
-use Rattle.game.proofs.Below.{Rooted}
-use Rattle.basics.proofs.Integers.{less-parts, less-le, le-less, sum-pos-ℤ}
-use Rattle.game.proofs.Overpayment.{over-at, members-sum, number-lt}
-use Rattle.game.proofs.Numbering.{vertex-of}
-use Rattle.game.proofs.NaturalShares.{natural-core}
-use Rattle.game.proofs.Core.{users-by-vertex, core-to-bound, bound-to-need, need-to-core, core-nonneg, enough}
-use Rattle.game.proofs.Bump.{squares}
-use Rattle.game.proofs.LevelRule.{Reached, Admits, reached-total}
-use Rattle.game.proofs.LevelList.{view, view-off, Stands, level-stands}
-use Rattle.answer_forms.specs.Answer.{Check, accepted, _then_}
-use Rattle.game.proofs.Excess.{MembersEnd}
-use Rattle.answers.specs.Checks.{treeCheck, outputCheck}
-use Rattle.answers.specs.Level.{LevelAnswer, split, refusal, capSum, shortArc, splitOr9, capsCheck, levelOr}
-use Rattle.answers.specs.Level.{levelCheck, levelAnswer, levelList, listAfter}
-use Rattle.answers.specs.LevelLaws.{Fits, squareSum, ShortAt, LevelLaws, Demand3}
-use Rattle.answer_forms.proofs.Composed.{first-accepted}
-use Rattle.answers.proofs.Accepted.{tree-accepted}
-use Rattle.answers.proofs.CoreLaws.{members-end}
-use Rattle.answers.proofs.ShortArc.{FirstShort, none-short, first-short}
+use Rattle.basics.proofs.Sums.{In}
+use Rattle.answer_forms.specs.Answer.{accepted}
+use Rattle.answers.specs.Checks.{treeCheck}
+use Rattle.answers.specs.Level.{LevelAnswer, split, refusal, splitFrom, levelAnswer, levelShares, levelList}
+use Rattle.answers.specs.Level.{listAfter}
+use Rattle.answers.specs.LevelLaws.{listsCheck, Fits, squareSum, RefusesSplit, Refused, ShortAt, HighAt, AboveAt}
+use Rattle.answers.specs.LevelLaws.{LevelLaws, Demand3}
+use Rattle.answers.proofs.LevelAnswered.{tree-ok, answered-by}
+use Rattle.answers.proofs.LevelStops.{not-both, same-refusal, Floors, fit, above, floors-found}
+use Rattle.answers.proofs.LevelStops.{Served, Walk, served, short, high, walk}
+use Rattle.answers.proofs.LevelFits.{caps-enough, source-fits, fits-given, least-given}
+use Rattle.answers.proofs.LevelRefusals.{none-between, short-at, high-at}
 
-square-of : (x : ℤ) → minus x ≡ 0 → x *ℤ x ≡ pos (plus x * plus x)
-square-of (pos a) e = refl
-square-of (negsuc a) e = absurd (omega arith)
+module _ (t : Tree) (caps floors out : List ℕ) (ok : listsCheck t caps floors out ≡ accepted) where
+  abbrev ready : treeCheck t ≡ accepted
+  ready = tree-ok t caps floors out ok
 
-pick-square : (b : Bool) (a : ℕ) → pick b (a * a) ≡ pick b a * pick b a
-pick-square true a = refl
-pick-square false a = refl
+  -- every arc is served
+  module _ (is-split : levelAnswer t caps floors out ≡ split (memberCount (network t)))
+      (all : (k : ℕ) → In (network t .arcs) k → Served (network t) caps floors k) where
+    list : levelList t caps floors out ≡ levelShares (network t) caps floors
+    unfolding levelList
+    list = ap (λ (a : LevelAnswer). listAfter a out (levelShares (network t) caps floors)) is-split
 
-module _ (t : Tree) (ok : treeCheck t ≡ accepted) (caps : List ℕ) where
-  rooted : Rooted (network t)
-  rooted = tree-accepted t ok .rooted
-
-  ends : MembersEnd (network t)
-  ends = members-end t (tree-accepted t ok)
-
-  module _ (shares : List ℤ) (none-less : (j : ℕ) → j < memberCount (network t) → minus (share shares j) ≡ 0) where
-    -- by vertex
-    square-sum : squareSum t shares ≡ pos (squares (network t .arcs) (over-at (network t) shares))
-    square-sum =
-        sum-pos-ℤ (memberCount (network t)) (λ j. share shares j *ℤ share shares j)
-        (λ j. plus (share shares j) * plus (share shares j))
-        (λ j h. square-of (share shares j) (none-less j h))
-        ∙ ap pos
-        (members-sum (network t .arcs) (network t .member) (λ j. plus (share shares j) * plus (share shares j))
-        ∙ sum-cong (network t .arcs)
-        (λ v i. pick-square (network t .member v) (plus (share shares (number (network t) v)))))
-
-  -- a list in the core that keeps the caps is one that the rule's list is compared with
-  module _ (shares : List ℤ) (fits : Fits t caps shares) where
-    none-less : (j : ℕ) → j < memberCount (network t) → minus (share shares j) ≡ 0
-    none-less = core-nonneg (network t) rooted ends shares (fits .in-core)
-
-    below-cap : (v : ℕ) → In (network t .arcs) v → over-at (network t) shares v ≤ view (network t) caps v
-    below-cap v i =
-        ⊎-elim
-        (λ (m : network t .member v ≡ true).
-        let x = share shares (number (network t) v) in
-        let c = pos (getD caps (number (network t) v) 0) in
-        let h = number-lt (network t) v i m in
-        pick-both-le (network t .member v)
-        (omega (
-          arith,
-          le-less x c (less-parts x) (less-parts c) (fits .keeps-caps (number (network t) v) h),
-          none-less (number (network t) v) h,
-        )))
-        (λ (m : network t .member v ≡ false). omega (arith, pick-no (plus (share shares (number (network t) v))) m))
-        (both (network t .member v))
-
-    has-need : (k : ℕ) → In (network t .arcs) k
-        → need (network t) k ≤ sumBelow (network t) (over-at (network t) shares) k
-    has-need =
-        enough (network t) rooted ends shares
-        (bound-to-need (network t) rooted shares (core-to-bound (network t) shares (fits .in-core)))
-
-    caps-enough : (k : ℕ) → In (network t .arcs) k → need (network t) k ≤ capSum (network t) caps k
-    unfolding sumBelow
-    caps-enough k i =
-        omega (
-          arith,
-          has-need k i,
-          sum-mono (network t .arcs) (λ v j. pick-both-le (atOrBelow (network t) k v) (below-cap v j)),
-        )
-
-    admits : Admits (network t) (view (network t) caps) (network t .cost) 0 0 (over-at (network t) shares)
-    admits =
+    split-laws : LevelLaws t caps floors out
+    split-laws =
         record {
-          off = λ v i m. pick-no (plus (share shares (number (network t) v))) m;
-          caps = below-cap;
-          kept = λ f lo hi. has-need f (omega arith);
-          enough = λ i. absurd (omega arith);
+          refused-exactly = (
+            (λ r. absurd (not-both (sym is-split ∙ r .answered))),
+            λ no. absurd (no (map pos (levelShares (network t) caps floors)) (fits-given t ready caps floors all)),
+          );
+          given-fits = λ e.
+              subst (λ (l : List ℕ). Fits t caps floors (map pos l)) (sym list) (fits-given t ready caps floors all);
+          least-squares = λ e.
+              subst
+              (λ (l : List ℕ). (shares : List ℤ) → Fits t caps floors shares
+              → squareSum t (map pos l) ≤ℤ squareSum t shares)
+              (sym list) (least-given t ready caps floors all);
+          one-of-two = inl is-split;
+          at-9 = λ place shortfall e. absurd (not-both (sym is-split ∙ e));
+          at-27 = λ place shortfall e. absurd (not-both (sym is-split ∙ e));
+          at-28 = λ place shortfall e. absurd (not-both (sym is-split ∙ e));
         }
 
-  -- where no arc is short the rule's list is one
-  module _ (none : shortArc (network t) caps (network t .arcs) ≡ 0) where
-    given : List ℕ
-    given = level (network t) caps (network t .cost)
+  -- the split is refused
+  module _ (number place shortfall : ℕ) (of-split : RefusesSplit number)
+      (is : levelAnswer t caps floors out ≡ refusal number place shortfall)
+      (none : (shares : List ℤ) → Fits t caps floors shares → ⊥)
+      (by-9 : number ≡ 9 → ShortAt t caps floors out place shortfall)
+      (by-27 : number ≡ 27 → AboveAt t caps floors place)
+      (by-28 : number ≡ 28 → HighAt t caps floors place) where
+    refused : Refused t caps floors out
+    refused =
+        record { number = number; place = place; shortfall = shortfall; of-split = of-split; answered = is }
 
-    stands : Stands (network t) caps (network t .cost) 0 0 given
-    unfolding given
-    stands = level-stands (network t) rooted caps (network t .cost) (none-short (network t) caps (network t .arcs) none)
-
-    reached : Reached (network t) (view (network t) caps) (network t .cost) 0 0 (view (network t) given)
-    reached = stands .reached
-
-    shares-given : (j : ℕ) → share (map pos given) j ≡ pos (getD given j 0)
-    shares-given j = List·getD-map pos given j 0
-
-    over-given : (v : ℕ) → over-at (network t) (map pos given) v ≡ view (network t) given v
-    over-given v = ap (λ (x : ℤ). pick (network t .member v) (plus x)) (shares-given (number (network t) v))
-
-    by-need : CoreByNeed (network t) (map pos given)
-    unfolding wholeCost
-    by-need =
-        natural-core (network t) given
-        (members-sum (network t .arcs) (network t .member) (λ j. getD given j 0)
-        ∙ reached-total (network t) rooted (view (network t) caps) (network t .cost) (view-off (network t) caps)
-        (none-short (network t) caps (network t .arcs) none) (view (network t) given) reached)
-        (λ k i. omega
-        (arith, users-by-vertex (network t) (λ j. getD given j 0) k, reached .kept k (i .first) (i .last)))
-
-    keeps-caps : (j : ℕ) → j < memberCount (network t) → share (map pos given) j ≤ℤ pos (getD caps j 0)
-    keeps-caps j h =
-        let v = vertex-of (network t .member) (network t .arcs) j h in
-        let x = share (map pos given) j in
-        let c = pos (getD caps j 0) in
-        less-le x c (less-parts x) (less-parts c)
-        (omega (
-          arith,
-          ap plus (shares-given j),
-          ap minus (shares-given j),
-          reached .caps (v .vertex) (v .within),
-          pick-yes (getD given (number (network t) (v .vertex)) 0) (v .is-member),
-          pick-yes (getD caps (number (network t) (v .vertex)) 0) (v .is-member),
-          ap (λ (i : ℕ). getD given i 0) (v .numbered),
-          ap (λ (i : ℕ). getD caps i 0) (v .numbered),
-        ))
-
-    fits-given : Fits t caps (map pos given)
-    fits-given =
+    refused-laws : LevelLaws t caps floors out
+    refused-laws =
         record {
-          one-a-member = length-map given pos ∙ stands .sized;
-          in-core = need-to-core (network t) rooted ends (map pos given) by-need;
-          keeps-caps = keeps-caps;
+          refused-exactly = (λ r. none, λ no. refused);
+          given-fits = λ e. absurd (not-both (sym e ∙ is));
+          least-squares = λ e. absurd (not-both (sym e ∙ is));
+          one-of-two = inr refused;
+          at-9 = λ p s e.
+              let same = same-refusal (sym is ∙ e) in
+              subst (λ (x : ℕ). ShortAt t caps floors out x s) (same .1)
+              (subst (ShortAt t caps floors out place) (same .2) (by-9 (same .0)));
+          at-27 = λ p s e.
+              let same = same-refusal (sym is ∙ e) in
+              subst (AboveAt t caps floors) (same .1) (by-27 (same .0));
+          at-28 = λ p s e.
+              let same = same-refusal (sym is ∙ e) in
+              subst (HighAt t caps floors) (same .1) (by-28 (same .0));
         }
 
-    least-given : (shares : List ℤ) → Fits t caps shares → squareSum t (map pos given) ≤ℤ squareSum t shares
-    least-given shares fits =
-        rw (square-sum (map pos given) (λ j h. ap minus (shares-given j)), square-sum shares (none-less shares fits))
-        (less-le (pos (squares (network t .arcs) (over-at (network t) (map pos given))))
-        (pos (squares (network t .arcs) (over-at (network t) shares)))
-        (less-parts (pos (squares (network t .arcs) (over-at (network t) (map pos given)))))
-        (less-parts (pos (squares (network t .arcs) (over-at (network t) shares))))
-        (omega (
-          arith,
-          sum-cong (network t .arcs) (λ v i. ap (λ (z : ℕ). z * z) (over-given v)),
-          reached .best (over-at (network t) shares) (admits shares fits),
-        )))
+  -- no floor is above its cap
+  module _ (is : levelAnswer t caps floors out ≡ splitFrom (network t) caps floors (network t .arcs))
+      (most : (j : ℕ) → j < memberCount (network t) → getD floors j 0 ≤ getD caps j 0) where
+    laws-of : Walk (network t) caps floors (network t .arcs) → LevelLaws t caps floors out
+    laws-of (served e all) = split-laws (is ∙ e) all
+    laws-of (short a i e lacks others) =
+        refused-laws 9 a _ (inl refl) (is ∙ e)
+        (λ shares fits. omega (arith, caps-enough t ready caps floors shares fits a i))
+        (λ z. short-at t caps floors out ok a i others most lacks) (λ z. absurd (omega arith))
+        (λ z. absurd (omega arith))
+    laws-of (high a i e enough source more others) =
+        refused-laws 28 a 0 (inr (inr refl)) (is ∙ e)
+        (λ shares fits. omega (arith, source-fits t ready caps floors shares fits a i source))
+        (λ z. absurd (omega arith)) (λ z. absurd (omega arith))
+        (λ z. high-at t caps floors out ok a i others enough source more)
 
-pub not-both : {members number place shortfall : ℕ} → split members ≡ refusal number place shortfall → ⊥
-not-both e = let z : _≡_ {A = ℕ} 0 1 = cc in omega arith
-
-same-refusal : {m a b k c d : ℕ} → refusal m a b ≡ refusal k c d → (a ≡ c) × (b ≡ d)
-same-refusal e = (cc, cc)
-
-module _ (t : Tree) (caps out : List ℕ) (ok : levelCheck t caps out ≡ accepted) where
-  tree-ok : treeCheck t ≡ accepted
-  tree-ok =
-      first-accepted (treeCheck t)
-      (capsCheck (memberCount (network t)) caps then outputCheck (memberCount (network t)) out) ok
-
-  answered : levelAnswer t caps out ≡ splitOr9 (network t) caps (shortArc (network t) caps (network t .arcs))
-  unfolding levelAnswer
-  answered = ap (λ (c : Check). levelOr c (splitOr9 (network t) caps (shortArc (network t) caps (network t .arcs)))) ok
-
-  -- no arc is short
-  no-short : shortArc (network t) caps (network t .arcs) ≡ 0 → LevelLaws t caps out
-  unfolding levelList given
-  no-short none =
-      record {
-        refused-exactly = (
-          (λ r. absurd (not-both (sym is-split ∙ r .2))),
-          λ no. absurd (no (map pos (given t tree-ok caps none)) (fits-given t tree-ok caps none)),
-        );
-        refused-at = λ place shortfall e. absurd (not-both (sym is-split ∙ e));
-        given-fits = λ e. subst (λ (l : List ℕ). Fits t caps (map pos l)) (sym list) (fits-given t tree-ok caps none);
-        least-squares =
-            λ e. subst
-            (λ (l : List ℕ). (shares : List ℤ) → Fits t caps shares → squareSum t (map pos l) ≤ℤ squareSum t shares)
-            (sym list) (least-given t tree-ok caps none);
-        one-of-two = inl is-split;
-      }
-    where
-      is-split : levelAnswer t caps out ≡ split (memberCount (network t))
-      is-split = answered ∙ ap (splitOr9 (network t) caps) none
-
-      list : levelList t caps out ≡ given t tree-ok caps none
-      list = ap (λ (a : LevelAnswer). listAfter a out (level (network t) caps (network t .cost))) is-split
-
-  -- arc suc a is the first short one
-  one-short : (a : ℕ) → shortArc (network t) caps (network t .arcs) ≡ suc a → LevelLaws t caps out
-  one-short a short =
-      record {
-        refused-exactly = (λ r. none, λ no. (suc a, lacking, is-refusal));
-        refused-at = λ place shortfall e.
-            let same = same-refusal (sym is-refusal ∙ e) in
-            subst (λ (p : ℕ). ShortAt t caps p shortfall) (same .0) (subst (ShortAt t caps (suc a)) (same .1) at);
-        given-fits = λ e. absurd (not-both (sym e ∙ is-refusal));
-        least-squares = λ e. absurd (not-both (sym e ∙ is-refusal));
-        one-of-two = inr (suc a, lacking, is-refusal);
-      }
-    where
-      lacking : ℕ
-      lacking = need (network t) (suc a) - capSum (network t) caps (suc a)
-
-      is-refusal : levelAnswer t caps out ≡ refusal 9 (suc a) lacking
-      is-refusal = answered ∙ ap (splitOr9 (network t) caps) short
-
-      first : FirstShort (network t) caps (network t .arcs) (suc a)
-      first = first-short (network t) caps (network t .arcs) a short
-
-      none : (shares : List ℤ) → Fits t caps shares → ⊥
-      none shares fits = omega (arith, caps-enough t tree-ok caps shares fits (suc a) (first .within), first .short)
-
-      at : ShortAt t caps (suc a) lacking
-      at =
-          record {
-            is-arc = record { first = first .within .low; last = first .within .high };
-            exact = omega (arith, first .short);
-            some-short = omega (arith, first .short);
-            first = λ k lo i. first .others k lo (i .last);
-          }
-
-  laws-at : (s : ℕ) → shortArc (network t) caps (network t .arcs) ≡ s → LevelLaws t caps out
-  laws-at zero e = no-short e
-  laws-at (suc a) e = one-short a e
+  laws-at : Floors caps floors (memberCount (network t)) → LevelLaws t caps floors out
+  laws-at (fit e most) =
+      laws-of (answered-by t caps floors out ok e) most (walk (network t) caps floors (network t .arcs))
+  laws-at (above j h e more least) =
+      refused-laws 27 j 0 (inr (inl refl)) (answered-by t caps floors out ok e)
+      (none-between t caps floors j h more) (λ z. absurd (omega arith))
+      (λ z. record { is-member = h; above = more; lowest = least }) (λ z. absurd (omega arith))
 
 pub level-laws : Demand3
-level-laws t caps out ok = laws-at t caps out ok (shortArc (network t) caps (network t .arcs)) refl
+level-laws t caps floors out ok = laws-at t caps floors out ok (floors-found caps floors (memberCount (network t)))

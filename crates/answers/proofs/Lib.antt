@@ -4,11 +4,15 @@ pub mod Limits
 pub mod Laws
 pub mod AuditLaws
 pub mod CoreLaws
+pub mod LevelFits
+mod LevelAnswered
+pub mod NoFloors
+mod LevelRefusals
 pub mod LevelLaws
 pub mod LevelKeys
 pub mod RunningSums
 pub mod CapSumsLaws
-pub mod ShortArc
+pub mod LevelStops
 pub mod Table
 pub mod InRange
 mod InTurn

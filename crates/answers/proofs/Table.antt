@@ -14,7 +14,7 @@ use Rattle.answers.specs.Needs.{needsAnswer, needsList}
 use Rattle.answers.specs.GroupCost.{groupCostAnswer}
 use Rattle.answers.specs.Audit.{totalAnswer, searchAnswer, searchWords}
 use Rattle.game.specs.Level.{firstLeast, units, arcsDown}
-use Rattle.answers.specs.Level.{shortArc, levelAnswer, levelList}
+use Rattle.answers.specs.Level.{splitFrom, levelAnswer, levelList}
 use Rattle.answers.specs.CapSums.{capSumsAnswer, capSumsList}
 use Rattle.game.specs.ByArc.{tallied, giveArc, handled}
 use Rattle.answers.specs.ByArc.{byArcAnswer, byArcList}
@@ -32,7 +32,7 @@ pub table : Table
 unfolding climb used groupCost sumBelow wholeCost membersTo hasChild deadEnds countedCosts bit size entries wordsOf pays
     groups best named oneByOne treeCheck plainCheck deadEndsAnswer deadEndsList bitsCheck rangeCheck
     memberCountAnswer membersAnswer membersList needsAnswer needsList groupCostAnswer totalAnswer searchAnswer
-    searchWords firstLeast units arcsDown shortArc levelAnswer levelList tallied giveArc handled byArcAnswer
+    searchWords firstLeast units arcsDown splitFrom levelAnswer levelList tallied giveArc handled byArcAnswer
     byArcList capSumsAnswer capSumsList padded madeState treeIn stateCheck outcomeCheck eventCheck askAnswer
     askedShares commitCheck commitAnswer committedState greatest branchMarks inwardWithin widest marginAnswer marginList
 table =
@@ -69,6 +69,17 @@ table =
       T-level-3-8-100-list = refl;
       U-level-3-100 = refl;
       U-level-3-100-list = refl;
+      T-floors-7-0-0 = refl;
+      T-floors-7-0-0-list = refl;
+      T-floors-0-7-0 = refl;
+      T-floors-0-7-0-list = refl;
+      T-floors-8-0-0 = refl;
+      T-floors-8-0-0-list = refl;
+      T-floors-0-0-5 = refl;
+      T-floors-short = refl;
+      T-floor-above-cap = refl;
+      T-floor-above-cap-list = refl;
+      T-floors-before-caps = refl;
       T-by-arc = refl;
       T-by-arc-list = refl;
       U-by-arc = refl;

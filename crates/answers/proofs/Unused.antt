@@ -25,7 +25,10 @@ use Rattle.game.specs.Level.{units, level}
 use Rattle.game.specs.Group.{wordsOf, byNumber}
 use Rattle.game.specs.Proposal.{difference}
 use Rattle.game.specs.Search.{isIn, named}
+use Rattle.game.specs.Inward.{amountOf}
+use Rattle.game.specs.Floors.{adjusted}
 use Rattle.game.proofs.Unused.{unused-need}
+use Rattle.game.proofs.Adjusted.{adjusted-limit}
 use Rattle.game.proofs.Branch.{branch-used}
 use Rattle.game.proofs.Counted.{unused-free}
 use Rattle.answer_forms.specs.Answer.{Check, Answer, fault, answer, written, _then_}
@@ -34,14 +37,16 @@ use Rattle.answers.specs.Members.{memberCountAnswer, membersAnswer, memb
 use Rattle.answers.specs.Needs.{needsAnswer, needsList}
 use Rattle.answers.specs.GroupCost.{groupCostAnswer}
 use Rattle.answers.specs.Audit.{Verdict, searchVerdict, wordsBeside, totalAnswer, searchAnswer, searchWords}
-use Rattle.answers.specs.Level.{LevelAnswer, capsCheck, shortArc, splitOr9, levelOr, listAfter, levelAnswer}
-use Rattle.answers.specs.Level.{levelList}
+use Rattle.answers.specs.Level.{LevelAnswer, capsCheck, limitsCheck, splitFrom, levelOr, listAfter}
+use Rattle.answers.specs.Level.{levelShares, levelAnswer, levelList}
 use Rattle.answers.specs.CapSums.{runningSum, allCaps, capSumsAnswer, capSumsList}
 use Rattle.answers.specs.ByArc.{byArcAnswer, byArcList}
 use Rattle.answers.specs.Margin.{branchAt, marginAnswer, marginList}
 use Rattle.answers.specs.States.{padded, madeState}
 use Rattle.answers.specs.Unused.{UnusedStatement, DifferUnused, StubStatement}
 use Rattle.answers.proofs.Accepted.{tree-accepted}
+use Rattle.answers.proofs.CoreLaws.{members-end}
+use Rattle.answers.proofs.RunningSums.{cap-sum-unused}
 
 pub unused-laws : UnusedStatement
 unfolding units
@@ -55,11 +60,26 @@ unused-laws t ok k arc unused =
           (λ (u : users n k j ≡ true). rw u (omega arith))
           (λ (u : users n k j ≡ false). rw u (omega arith))
           (both (users n k j)));
-      no-unit = λ caps shares. ap (λ (c : ℕ). units n caps k c shares) free;
+      no-adjusted = without;
+      no-unit = λ caps floors shares.
+          ap (λ (c : ℕ). units n caps k c shares) (no-amount floors);
     }
   where
     n : Network
     n = network t
+
+    without : (floors : List ℕ) → adjusted n floors k ≡ 0
+    without floors =
+        let tree = tree-accepted t ok in
+        omega (
+          arith,
+          adjusted-limit n (tree .rooted) (members-end t tree) floors k (omega (arith, arc .first, arc .last)),
+          unused-need n (tree .rooted) k unused (unused-free t),
+          cap-sum-unused n floors k unused,
+        )
+
+    no-amount : (floors : List ℕ) → amountOf n (adjusted n floors) k ≡ 0
+    no-amount floors = omega (arith, without floors)
 
     free : network t .cost k ≡ 0
     free = unused-free t k (record { low = arc .first; high = arc .last }) unused
@@ -129,8 +149,9 @@ stubs-free s t s-ok t-ok differ =
       total = λ shares. by-both (λ c n. answer (c then proposalCheck (memberCount n) shares) (difference n shares));
       search = λ shares. by-both (searched shares);
       search-words = λ shares. by-both (λ c n. wordsBeside (searched shares c n) (wordsOf (isIn (named n shares))));
-      level = λ caps out. by-both (leveled caps out);
-      level-list = λ caps out. by-both (λ c n. listAfter (leveled caps out c n) out (level n caps (n .cost)));
+      level = λ caps floors out. by-both (leveled caps floors out);
+      level-list = λ caps floors out.
+          by-both (λ c n. listAfter (leveled caps floors out c n) out (levelShares n caps floors));
       cap-sums = λ caps out. by-both (λ c n. answer (summed caps out c n) (allCaps caps));
       cap-sums-list = λ caps out.
           by-both (λ c n. written (summed caps out c n) out (list (n .arcs) (runningSum n caps)));
@@ -171,10 +192,10 @@ stubs-free s t s-ok t-ok differ =
     searched : List ℤ → Check → Network → Answer Verdict
     searched shares c n = answer (c then proposalCheck (memberCount n) shares) (searchVerdict n shares)
 
-    leveled : List ℕ → List ℕ → Check → Network → LevelAnswer
-    leveled caps out c n =
-        levelOr (c then capsCheck (memberCount n) caps then outputCheck (memberCount n) out)
-        (splitOr9 n caps (shortArc n caps (n .arcs)))
+    leveled : List ℕ → List ℕ → List ℕ → Check → Network → LevelAnswer
+    leveled caps floors out c n =
+        levelOr (c then limitsCheck (memberCount n) caps floors then outputCheck (memberCount n) out)
+        (splitFrom n caps floors (n .arcs))
 
     summed : List ℕ → List ℕ → Check → Network → Check
     summed caps out c n = c then capsCheck (memberCount n) caps then outputCheck (n .arcs) out

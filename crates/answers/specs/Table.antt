@@ -59,6 +59,10 @@ margin d users = record { margin = d; users = users }
 abbrev pub group : ℕ → List ℕ
 group w = w ∷ replicate 15 0
 
+-- floors of 0 for n members
+abbrev pub nothing : ℕ → List ℕ
+nothing n = replicate n 0
+
 -- a lent list of n entries, all of them 77, which no row answers
 abbrev pub lent : ℕ → List ℕ
 lent n = replicate n 77
@@ -122,14 +126,27 @@ pub record Table : Type 0 where
   pub W-7-7-6-total : totalAnswer W (pos 7 ∷ pos 7 ∷ pos 6 ∷ []) ≡ value (pos 0)
   pub W-7-7-6-search : searchAnswer W (pos 7 ∷ pos 7 ∷ pos 6 ∷ []) ≡ value (found 2 2)
   pub W-7-7-6-words : searchWords W (pos 7 ∷ pos 7 ∷ pos 6 ∷ []) ≡ group 3
-  pub T-level-100 : levelAnswer T (100 ∷ 100 ∷ 100 ∷ []) (lent 3) ≡ split 3
-  pub T-level-100-list : levelList T (100 ∷ 100 ∷ 100 ∷ []) (lent 3) ≡ 6 ∷ 6 ∷ 4 ∷ []
-  pub T-level-3-9-4 : levelAnswer T (3 ∷ 9 ∷ 4 ∷ []) (lent 3) ≡ split 3
-  pub T-level-3-9-4-list : levelList T (3 ∷ 9 ∷ 4 ∷ []) (lent 3) ≡ 3 ∷ 9 ∷ 4 ∷ []
-  pub T-level-3-8-100 : levelAnswer T (3 ∷ 8 ∷ 100 ∷ []) (lent 3) ≡ refusal 9 1 1
-  pub T-level-3-8-100-list : levelList T (3 ∷ 8 ∷ 100 ∷ []) (lent 3) ≡ lent 3
-  pub U-level-3-100 : levelAnswer U (3 ∷ 100 ∷ []) (lent 2) ≡ split 2
-  pub U-level-3-100-list : levelList U (3 ∷ 100 ∷ []) (lent 2) ≡ 3 ∷ 4 ∷ []
+  pub T-level-100 : levelAnswer T (100 ∷ 100 ∷ 100 ∷ []) (nothing 3) (lent 3) ≡ split 3
+  pub T-level-100-list : levelList T (100 ∷ 100 ∷ 100 ∷ []) (nothing 3) (lent 3) ≡ 6 ∷ 6 ∷ 4 ∷ []
+  pub T-level-3-9-4 : levelAnswer T (3 ∷ 9 ∷ 4 ∷ []) (nothing 3) (lent 3) ≡ split 3
+  pub T-level-3-9-4-list : levelList T (3 ∷ 9 ∷ 4 ∷ []) (nothing 3) (lent 3) ≡ 3 ∷ 9 ∷ 4 ∷ []
+  pub T-level-3-8-100 : levelAnswer T (3 ∷ 8 ∷ 100 ∷ []) (nothing 3) (lent 3) ≡ refusal 9 1 1
+  pub T-level-3-8-100-list : levelList T (3 ∷ 8 ∷ 100 ∷ []) (nothing 3) (lent 3) ≡ lent 3
+  pub U-level-3-100 : levelAnswer U (3 ∷ 100 ∷ []) (nothing 2) (lent 2) ≡ split 2
+  pub U-level-3-100-list : levelList U (3 ∷ 100 ∷ []) (nothing 2) (lent 2) ≡ 3 ∷ 4 ∷ []
+  -- floors
+  pub T-floors-7-0-0 : levelAnswer T (100 ∷ 100 ∷ 100 ∷ []) (7 ∷ 0 ∷ 0 ∷ []) (lent 3) ≡ split 3
+  pub T-floors-7-0-0-list : levelList T (100 ∷ 100 ∷ 100 ∷ []) (7 ∷ 0 ∷ 0 ∷ []) (lent 3) ≡ 7 ∷ 5 ∷ 4 ∷ []
+  pub T-floors-0-7-0 : levelAnswer T (100 ∷ 100 ∷ 100 ∷ []) (0 ∷ 7 ∷ 0 ∷ []) (lent 3) ≡ split 3
+  pub T-floors-0-7-0-list : levelList T (100 ∷ 100 ∷ 100 ∷ []) (0 ∷ 7 ∷ 0 ∷ []) (lent 3) ≡ 5 ∷ 7 ∷ 4 ∷ []
+  pub T-floors-8-0-0 : levelAnswer T (100 ∷ 100 ∷ 100 ∷ []) (8 ∷ 0 ∷ 0 ∷ []) (lent 3) ≡ refusal 28 1 0
+  pub T-floors-8-0-0-list : levelList T (100 ∷ 100 ∷ 100 ∷ []) (8 ∷ 0 ∷ 0 ∷ []) (lent 3) ≡ lent 3
+  pub T-floors-0-0-5 : levelAnswer T (100 ∷ 100 ∷ 100 ∷ []) (0 ∷ 0 ∷ 5 ∷ []) (lent 3) ≡ refusal 28 4 0
+  pub T-floors-short : levelAnswer T (4 ∷ 7 ∷ 4 ∷ []) (0 ∷ 7 ∷ 0 ∷ []) (lent 3) ≡ refusal 9 1 1
+  pub T-floor-above-cap : levelAnswer T (2 ∷ 100 ∷ 100 ∷ []) (3 ∷ 0 ∷ 0 ∷ []) (lent 3) ≡ refusal 27 0 0
+  pub T-floor-above-cap-list : levelList T (2 ∷ 100 ∷ 100 ∷ []) (3 ∷ 0 ∷ 0 ∷ []) (lent 3) ≡ lent 3
+  -- 28 at arc 4 before 9 at arc 3
+  pub T-floors-before-caps : levelAnswer T (0 ∷ 0 ∷ 5 ∷ []) (0 ∷ 0 ∷ 5 ∷ []) (lent 3) ≡ refusal 28 4 0
   pub T-by-arc : byArcAnswer T (lent 3) ≡ value 3
   pub T-by-arc-list : byArcList T (lent 3) ≡ 4 ∷ 8 ∷ 4 ∷ []
   pub U-by-arc : byArcAnswer U (lent 2) ≡ value 2
@@ -150,8 +167,8 @@ pub record Table : Type 0 where
   pub T-margin-4-list : marginList T 4 (lent 1) ≡ lent 1
   pub spare-margin : marginAnswer T-spare 1 (lent 1) ≡ no 26 1
   -- beyond the specification's rows: every arc is short, and a rest of 1 between two users
-  pub T-level-0 : levelAnswer T (0 ∷ 0 ∷ 0 ∷ []) (lent 3) ≡ refusal 9 4 4
-  pub U-level-100-list : levelList U (100 ∷ 100 ∷ []) (lent 2) ≡ 4 ∷ 3 ∷ []
+  pub T-level-0 : levelAnswer T (0 ∷ 0 ∷ 0 ∷ []) (nothing 3) (lent 3) ≡ refusal 9 4 4
+  pub U-level-100-list : levelList U (100 ∷ 100 ∷ []) (nothing 2) (lent 2) ≡ 4 ∷ 3 ∷ []
   -- the whole membership, a difference without a group, and a refusal
   pub T-9-9-9-total : totalAnswer T (pos 9 ∷ pos 9 ∷ pos 9 ∷ []) ≡ value (pos 11)
   pub T-9-9-9-search : searchAnswer T (pos 9 ∷ pos 9 ∷ pos 9 ∷ []) ≡ value (found 11 3)
@@ -174,8 +191,8 @@ pub record Table : Type 0 where
   pub spare-cost-of-0 : groupCostAnswer T-spare (group 1) ≡ value (record { size = 1; cost = 7 })
   pub spare-by-arc : byArcAnswer T-spare (lent 2) ≡ value 2
   pub spare-by-arc-list : byArcList T-spare (lent 2) ≡ 7 ∷ 4 ∷ []
-  pub spare-level-100 : levelAnswer T-spare (100 ∷ 100 ∷ []) (lent 2) ≡ split 2
-  pub spare-level-100-list : levelList T-spare (100 ∷ 100 ∷ []) (lent 2) ≡ 7 ∷ 4 ∷ []
+  pub spare-level-100 : levelAnswer T-spare (100 ∷ 100 ∷ []) (nothing 2) (lent 2) ≡ split 2
+  pub spare-level-100-list : levelList T-spare (100 ∷ 100 ∷ []) (nothing 2) (lent 2) ≡ 7 ∷ 4 ∷ []
   pub mark-2 : membersAnswer (T-marked 0 1 2 1) (lent 2) ≡ no 16 3
   pub mark-2-list : membersList (T-marked 0 1 2 1) (lent 2) ≡ lent 2
   pub mark-of-parent : membersAnswer (T-marked 1 1 2 1) (lent 3) ≡ no 17 1

@@ -7,6 +7,8 @@ use lib.IntN.{ℤ}
 use Rattle.game.specs.Network.{used, everyone, need}
 use Rattle.game.specs.Tree.{Tree, ofArc, network}
 use Rattle.game.specs.ByArc.{gift}
+use Rattle.game.specs.Inward.{amountOf}
+use Rattle.game.specs.Floors.{adjusted}
 use Rattle.game.specs.Level.{units}
 use Rattle.answer_forms.specs.Answer.{accepted}
 use Rattle.answers.specs.Checks.{treeCheck}
@@ -21,11 +23,13 @@ use Rattle.answers.specs.ByArc.{byArcAnswer, byArcList}
 use Rattle.answers.specs.Margin.{marginAnswer, marginList}
 use Rattle.answers.specs.States.{madeState}
 
--- arc k has need 0, and gives nothing to anyone in either split
+-- arc k has need 0, adjusted need 0, and gives nothing to anyone in either split
 pub record UnusedLaws (t : Tree) (k : ℕ) : Type 0 where
   pub no-need : need (network t) k ≡ 0
+  pub no-adjusted : (floors : List ℕ) → adjusted (network t) floors k ≡ 0
   pub no-gift : (j : ℕ) → gift (network t) k j ≡ 0
-  pub no-unit : (caps shares : List ℕ) → units (network t) caps k (network t .cost k) shares ≡ shares
+  pub no-unit : (caps floors shares : List ℕ)
+      → units (network t) caps k (amountOf (network t) (adjusted (network t) floors) k) shares ≡ shares
 
 abbrev pub UnusedStatement : Type 0
 UnusedStatement = (t : Tree) → treeCheck t ≡ accepted → (k : ℕ) → ArcOf t k → used (network t) everyone k ≡ false
@@ -49,8 +53,8 @@ pub record SameAnswers (s t : Tree) : Type 0 where
   pub total : (shares : List ℤ) → totalAnswer s shares ≡ totalAnswer t shares
   pub search : (shares : List ℤ) → searchAnswer s shares ≡ searchAnswer t shares
   pub search-words : (shares : List ℤ) → searchWords s shares ≡ searchWords t shares
-  pub level : (caps out : List ℕ) → levelAnswer s caps out ≡ levelAnswer t caps out
-  pub level-list : (caps out : List ℕ) → levelList s caps out ≡ levelList t caps out
+  pub level : (caps floors out : List ℕ) → levelAnswer s caps floors out ≡ levelAnswer t caps floors out
+  pub level-list : (caps floors out : List ℕ) → levelList s caps floors out ≡ levelList t caps floors out
   pub cap-sums : (caps out : List ℕ) → capSumsAnswer s caps out ≡ capSumsAnswer t caps out
   pub cap-sums-list : (caps out : List ℕ) → capSumsList s caps out ≡ capSumsList t caps out
   pub by-arc : (out : List ℕ) → byArcAnswer s out ≡ byArcAnswer t out

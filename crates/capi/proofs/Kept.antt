@@ -3,7 +3,7 @@ use Prim.Native.Nat.{ℕ, zero, suc, _+_, _*_}
 use mathlib.Core.Path.{_≡_, refl, subst}
 use mathlib.Core.Bool.{Bool, _||_, not}
 use mathlib.Core.List.{List, [], _∷_}
-use lib.ListN.{length}
+use lib.ListN.{length, getD}
 use lib.Dec.{eqb, ltb, leb}
 use Rattle.game.specs.Tree.{Tree, network, deadEndTree}
 use Rattle.game.specs.ByArc.{userCount}
@@ -11,9 +11,9 @@ use Rattle.basics.specs.Bit.{bit}
 use Rattle.answer_forms.specs.Answer.{Check, fault, _then_}
 use Rattle.answer_forms.proofs.Composed.{fault-holds, then-holds}
 use Rattle.limits.specs.Limits.{mostArcs, mostEvents}
-use Rattle.answers.specs.Checks.{treeCheck, plainCheck, bitsCheck, rangeCheck}
+use Rattle.answers.specs.Checks.{oneByOne, treeCheck, plainCheck, bitsCheck, rangeCheck}
 use Rattle.answers.specs.Checks.{memberListCheck, outputCheck, outsideShare}
-use Rattle.answers.specs.Level.{outsideCap}
+use Rattle.answers.specs.Level.{outsideCap, capsCheck, floorsCheck, limitsCheck}
 use Rattle.answers.specs.Margin.{leavesSource, marginCheck}
 use Rattle.answers.specs.States.{State}
 use Rattle.answers.specs.Events.{Event, applyCheck}
@@ -73,6 +73,19 @@ range-kept outside j (x ∷ rest) =
 pub list-kept : {A : Type 0} (outside : A → Bool) (members : ℕ) (l : List A) → Kept (memberListCheck outside members l)
 list-kept outside members l =
     fault-then-kept (not (eqb (length l) members)) 5 0 (rangeCheck outside 0 l) (range-kept outside 0 l)
+
+floors-kept : (members : ℕ) (caps floors : List ℕ) → Kept (floorsCheck members caps floors)
+unfolding oneByOne
+floors-kept zero caps floors = refl
+floors-kept (suc j) caps floors =
+    then-kept (floorsCheck j caps floors) _ (floors-kept j caps floors)
+    (fault-kept (ltb (getD caps j 0) (getD floors j 0)) 26 j)
+
+pub limits-kept : (members : ℕ) (caps floors : List ℕ) → Kept (limitsCheck members caps floors)
+limits-kept members caps floors =
+    then-kept (capsCheck members caps) _ (list-kept outsideCap members caps)
+    (then-kept (capsCheck members floors) (floorsCheck members caps floors) (list-kept outsideCap members floors)
+    (floors-kept members caps floors))
 
 pub output-kept : {A : Type 0} (wanted : ℕ) (out : List A) → Kept (outputCheck wanted out)
 output-kept wanted out = fault-kept (not (eqb (length out) wanted)) 7 0

@@ -1,2 +1,3 @@
 mod Kept
 mod ReadBack
+mod LevelBack

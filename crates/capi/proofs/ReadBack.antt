@@ -6,7 +6,7 @@ use lib.ListN.{length}
 use lib.Dec.{eqb·suc-zero}
 use lib.IntN.{ℤ, pos, negsuc}
 use native.Mathlib.Omega.{arith}
-use Rattle.game.specs.Network.{Network, memberCount}
+use Rattle.game.specs.Network.{memberCount}
 use Rattle.game.specs.Tree.{Tree, network}
 use Rattle.game.specs.Proposal.{difference}
 use Rattle.answer_forms.specs.Answer.{Check, accepted, refused, Answer, value, refusal, _then_, answer}
@@ -16,7 +16,7 @@ use Rattle.answers.specs.Members.{memberCountAnswer, membersCheck, membersAnswe
 use Rattle.answers.specs.Needs.{needsAnswer}
 use Rattle.answers.specs.GroupCost.{groupCostAnswer}
 use Rattle.answers.specs.Audit.{Verdict, found, none, auditCheck, totalAnswer, searchVerdict, searchAnswer}
-use Rattle.answers.specs.Level.{LevelAnswer, outsideCap, capsCheck, shortArc, levelOr, splitOr9, levelAnswer}
+use Rattle.answers.specs.Level.{outsideCap, capsCheck}
 use Rattle.answers.specs.CapSums.{capSumsAnswer}
 use Rattle.answers.specs.ByArc.{byArcAnswer}
 use Rattle.answers.specs.Margin.{marginAnswer}
@@ -32,13 +32,14 @@ use Rattle.job.specs.Reader.{Lent, readCheck, jobAnswer}
 use Rattle.job.specs.Writer.{contentsCheck, lengthAnswer, writeCheck, writeAnswer}
 use Rattle.capi.specs.Structs.{encodeMembers, decodeMembers, encodeNeeds, decodeNeeds, encodeGroup, decodeGroup}
 use Rattle.capi.specs.Structs.{encodeTotal, decodeTotal, encodeSearch, decodeSearch, VerdictUnlessRefused}
-use Rattle.capi.specs.Structs.{encodeLevel, decodeLevel, encodeMargin, decodeMargin}
+use Rattle.capi.specs.Structs.{encodeMargin, decodeMargin}
 use Rattle.capi.specs.Structs.{encodeCapSums, decodeCapSums, encodeJob, decodeJob}
 use Rattle.capi.specs.Structs.{encodeJobLength, decodeJobLength}
 use Rattle.capi.specs.Structs.{encodeState, decodeState, encodeEvent, eventBy, encodeQuote, quoteBy}
 use Rattle.capi.specs.Structs.{encodeAsked, decodeAsked}
 use Rattle.capi.proofs.Kept.{Kept, then-kept, tree-kept, plain-kept, bits-kept, list-kept, output-kept}
-use Rattle.capi.proofs.Kept.{margin-kept, apply-kept, commit-kept, read-kept, contents-kept, write-kept}
+use Rattle.capi.proofs.Kept.{margin-kept, apply-kept, commit-kept, read-kept, contents-kept}
+use Rattle.capi.proofs.Kept.{write-kept}
 
 -- s is the struct of an answer that can be read back: what it stands for, and that its other fields are 0
 pub stands-for : {A S : Type 0} (encode : A → S) (decode : S → A) {a found : A} {s : S} → s ≡ encode found → found ≡ a
@@ -60,7 +61,7 @@ stands-with Holds encode decode is finds back holds =
     let r = stands-for encode decode is finds back in
     (r .0, (r .1, subst Holds (sym (is ∙ ap encode finds)) holds))
 
-not-zero : {place : ℕ} → accepted ≡ refused 0 place → ⊥
+pub not-zero : {place : ℕ} → accepted ≡ refused 0 place → ⊥
 not-zero e = let z : _≡_ {A = ℕ} 0 1 = cc in omega arith
 
 module _ {A S : Type 0} (encode : Answer A → S) (decode : S → Answer A)
@@ -165,16 +166,6 @@ total-verdict t shares =
     verdict-unless encodeTotal (λ s. s .verdict) (λ s. s .refusal) total-found-verdict
     (λ n place. rw (eqb·suc-zero n)) (auditCheck t shares) (difference (network t) shares) (audit-kept t shares)
 
-level-or-back : (c : Check) (a : LevelAnswer) → Kept c → decodeLevel (encodeLevel a) ≡ a
-    → decodeLevel (encodeLevel (levelOr c a)) ≡ levelOr c a
-level-or-back accepted a kept back = back
-level-or-back (refused zero place) a kept back = absurd (not-zero kept)
-level-or-back (refused (suc n) place) a kept back = refl
-
-split-back : (n : Network) (caps : List ℕ) (k : ℕ) → decodeLevel (encodeLevel (splitOr9 n caps k)) ≡ splitOr9 n caps k
-split-back n caps zero = refl
-split-back n caps (suc k) = refl
-
 -- the tree, caps and an output list of a wanted length
 caps-kept : (t : Tree) (caps out : List ℕ) (wanted : ℕ)
     → Kept (treeCheck t then capsCheck (memberCount (network t)) caps then outputCheck wanted out)
@@ -196,13 +187,6 @@ unfolding capSumsAnswer
 cap-sums-back t caps out =
     answer-back encodeCapSums decodeCapSums (λ x. refl) (λ n place. refl) _ _
     (caps-kept t caps out (length (t .parents)))
-
-pub level-back : (t : Tree) (caps out : List ℕ)
-    → decodeLevel (encodeLevel (levelAnswer t caps out)) ≡ levelAnswer t caps out
-unfolding levelAnswer
-level-back t caps out =
-    level-or-back _ _ (caps-kept t caps out (memberCount (network t)))
-    (split-back (network t) caps (shortArc (network t) caps (network t .arcs)))
 
 -- the answer beside a state
 module _ (s : State) where

@@ -1,4 +1,4 @@
-// The level split under caps.
+// The level split under caps and floors.
 use engine::LevelSplit;
 ghost use mathlib.Core.Path.{_≡_};
 ghost use Rattle.game.specs.Tree.{treeOf};
@@ -43,15 +43,16 @@ pub extern "C" fn zilqodur_split_level(
     costs: &[u32],
     marks: &[u16],
     caps: &[u64],
+    floors: &[u64],
     out: &mut [u64],
 ) -> ZilqodurLevel
     ensures { λ r. ⌜ decodeLevel r
         ≡ levelAnswer (treeOf (now (parents .entry)) (now (costs .entry)) (now (marks .entry)))
-        (now (caps .entry)) (now (out .entry)) ⌝ }
+        (now (caps .entry)) (now (floors .entry)) (now (out .entry)) ⌝ }
     ensures { λ r. ⌜ r ≡ encodeLevel (decodeLevel r) ⌝ }
     ensures { λ _. ⌜ now (out .exit)
         ≡ levelList (treeOf (now (parents .entry)) (now (costs .entry)) (now (marks .entry)))
-        (now (caps .entry)) (now (out .entry)) ⌝ }
+        (now (caps .entry)) (now (floors .entry)) (now (out .entry)) ⌝ }
 {
-    encode(engine::split_level(parents, costs, marks, caps, out))
+    encode(engine::split_level(parents, costs, marks, caps, floors, out))
 }

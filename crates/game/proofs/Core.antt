@@ -128,7 +128,7 @@ module _ (n : Network) (rooted : Rooted n) (end : MembersEnd n) (shares : List �
             (λ (m : n .member v ≡ false). pick-no (minus (share shares (number n v))) m)
             (both (n .member v))
 
-    pays-all : sum (n .arcs) (over-at n shares) ≡ wholeCost n
+    pub pays-all : sum (n .arcs) (over-at n shares) ≡ wholeCost n
     pays-all = omega (arith, pays-whole n shares (core .adds-up), none-under (λ j. true))
 
     pub need-to-core : Core n shares

@@ -43,6 +43,8 @@ pub mod LevelByKeys
 pub mod LevelCosts
 pub mod HeldBounds
 pub mod Raised
+pub mod Adjusted
+pub mod CoreLimits
 pub mod LevelFree
 pub mod LevelBounds
 pub mod Branched

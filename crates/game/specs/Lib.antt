@@ -11,3 +11,4 @@ pub mod ByArc
 pub mod Shapley
 pub mod Branch
 pub mod Margin
+pub mod Floors

@@ -1,3 +1,4 @@
-mod Shortage
-mod AtNeeds
+mod AdjustedPass
+mod Stopped
+mod AtAdjusted
 pub mod CapsAccepted

@@ -1,1 +1,1 @@
-pub mod Found
+pub mod Stops

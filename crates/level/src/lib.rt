@@ -1,7 +1,7 @@
-// The level split: whether the caps are enough, and the shares where they are.
-mod arcs;
-mod short;
+// The level split: the adjusted needs, what stops the split, and the shares where nothing does.
+mod adjusted;
+mod shares;
+mod stops;
 
-pub use arcs::write_level;
-pub use short::CapsFound;
-pub use short::find_short;
+pub use shares::write_level;
+pub use stops::Stop;

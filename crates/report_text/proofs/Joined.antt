@@ -12,7 +12,7 @@ use Rattle.answers.specs.ByArc.{byArcList}
 use Rattle.buffer.specs.Put.{Put}
 use Rattle.buffer.proofs.Pieces.{put-then}
 use Rattle.report_lines.specs.Lines.{auditText, levelLine, memberLines}
-use Rattle.report_text.specs.Report.{blank, costText, treeText, splitText}
+use Rattle.report_text.specs.Report.{blank, noFloors, costText, treeText, splitText}
 
 module _ (t : Tree) (proposed : List ℤ) {a b c : List ℕ} {at e f n : ℕ} (n-is : n ≡ memberCount (network t)) where
   pub tree-joined : {total : Answer ℤ} {search : Answer Verdict} {words : List ℕ}
@@ -26,17 +26,18 @@ module _ (t : Tree) (proposed : List ℤ) {a b c : List ℕ} {at e f n : ℕ} (n
   tree-joined total-is search-is words-is p q = put-then p (rw (n-is, total-is, search-is, words-is) at q)
 
   -- the lists before the splits are all 0
-  pub split-joined : (caps : List ℕ) {level : LevelAnswer} {vertices by-arc shares by-arc₀ shares₀ : List ℕ}
+  pub split-joined : (caps : List ℕ) {level : LevelAnswer} {vertices floors by-arc shares by-arc₀ shares₀ : List ℕ}
+      → floors ≡ noFloors t
       → by-arc₀ ≡ blank t
       → shares₀ ≡ blank t
       → Put a at (levelLine level) b e
       → Put b e (memberLines level vertices proposed by-arc shares n) c f
       → vertices ≡ members (network t)
       → by-arc ≡ byArcList t by-arc₀
-      → level ≡ levelAnswer t caps shares₀
-      → shares ≡ levelList t caps shares₀
+      → level ≡ levelAnswer t caps floors shares₀
+      → shares ≡ levelList t caps floors shares₀
       → Put a at (splitText t caps proposed) c f
   unfolding splitText
-  split-joined caps by-arc₀-is shares₀-is p q vertices-is by-arc-is level-is shares-is =
-      put-then (rw (level-is, shares₀-is) at p)
-      (rw (level-is, vertices-is, by-arc-is, shares-is, n-is, by-arc₀-is, shares₀-is) at q)
+  split-joined caps floors-are by-arc₀-is shares₀-is p q vertices-is by-arc-is level-is shares-is =
+      put-then (rw (level-is, floors-are, shares₀-is) at p)
+      (rw (level-is, vertices-is, by-arc-is, shares-is, n-is, floors-are, by-arc₀-is, shares₀-is) at q)

@@ -7,11 +7,12 @@ use Rattle.basics.specs.Sum.{size, entries}
 use Rattle.game.specs.Group.{wordsOf}
 use Rattle.game.specs.Proposal.{pays}
 use Rattle.game.specs.Search.{groups, best, named}
+use Rattle.game.specs.Inward.{inwardWithin}
 use Rattle.game.specs.Level.{firstLeast, units, arcsDown}
 use Rattle.game.specs.ByArc.{tallied, giveArc, handled}
 use Rattle.answers.specs.Checks.{oneByOne, treeCheck, rangeCheck}
 use Rattle.answers.specs.Audit.{totalAnswer, searchAnswer, searchWords}
-use Rattle.answers.specs.Level.{shortArc, levelAnswer, levelList}
+use Rattle.answers.specs.Level.{splitFrom, levelAnswer, levelList}
 use Rattle.answers.specs.ByArc.{byArcList}
 use Rattle.numbers.specs.Signed.{signed64, bits64}
 use Rattle.job_bytes.specs.Numbers.{littleEndian, inBytes}
@@ -28,7 +29,7 @@ pub table : ReportTable
 unfolding climb used groupCost sumBelow wholeCost membersTo hasChild deadEnds countedCosts bit size wordsOf
     pays groups best named
     firstLeast units arcsDown tallied giveArc handled oneByOne treeCheck rangeCheck totalAnswer searchAnswer
-    searchWords shortArc levelAnswer levelList byArcList littleEndian signed64 inBytes bits64 entries
+    searchWords inwardWithin splitFrom levelAnswer levelList byArcList littleEndian signed64 inBytes bits64 entries
     arcRow memberRow trailer arcOffset memberOffset jobArcs jobMembers version formCheck fillersFrom sharesCheck
     valuesCheck jobCheck decimalIn decimal signedDecimal
     groupText memberLines treeText splitText reportText

@@ -17,6 +17,10 @@ use Rattle.report_lines.specs.Lines.{refusedLine, costLine, auditText, levelLin
 abbrev pub blank : Tree → List ℕ
 blank t = replicate (memberCount (network t)) 0
 
+-- a job of version 1 sets no floors: every member's is 0
+abbrev pub noFloors : Tree → List ℕ
+noFloors t = replicate (memberCount (network t)) 0
+
 -- the line on the tree
 abbrev pub costText : Tree → List ℕ
 costText t = costLine (wholeCost (network t)) (memberCount (network t))
@@ -30,13 +34,13 @@ treeText t proposed =
 -- the lines on the two splits
 unfoldable pub splitText : Tree → List ℕ → List ℤ → List ℕ
 splitText t caps proposed =
-    levelLine (levelAnswer t caps (blank t))
+    levelLine (levelAnswer t caps (noFloors t) (blank t))
     ++ memberLines
-    (levelAnswer t caps (blank t))
+    (levelAnswer t caps (noFloors t) (blank t))
     (members (network t))
     proposed
     (byArcList t (blank t))
-    (levelList t caps (blank t))
+    (levelList t caps (noFloors t) (blank t))
     (memberCount (network t))
 
 abbrev pub jobText : Tree → List ℕ → List ℤ → List ℕ

@@ -12,7 +12,7 @@ ghost use Rattle.game.specs.Tree.{treeOf, network, deadEndTree};
 ghost use Rattle.answer_forms.specs.Answer.{accepted};
 ghost use Rattle.answers.specs.Checks.{treeCheck};
 ghost use Rattle.buffer.specs.Put.{Put};
-ghost use Rattle.report_text.specs.Report.{blank, costText, treeText, splitText, jobText};
+ghost use Rattle.report_text.specs.Report.{blank, noFloors, costText, treeText, splitText, jobText};
 
 // `needs` is room for one entry an arc.
 fn put_cost(
@@ -58,12 +58,13 @@ fn put_tree(
     put_audit(out, next, proposed.len(), total, searched)
 }
 
-// The lines on the two splits. The three lists are room for one entry a member, all 0.
+// The lines on the two splits. `vertices`, `by_arc` and `shares` are room for one entry a member, all 0.
 fn put_splits(
     parents: &[u16],
     costs: &[u32],
     marks: &[u16],
     caps: &[u64],
+    floors: &[u64],
     proposed: &[i64],
     vertices: &mut [u16],
     by_arc: &mut [u64],
@@ -73,6 +74,7 @@ fn put_splits(
 ) -> usize
     requires { ⌜ treeCheck (treeOf (now parents) (now costs) (now marks)) ≡ accepted ⌝ }
     requires { ⌜ length (now proposed) ≡ memberCount (network (treeOf (now parents) (now costs) (now marks))) ⌝ }
+    requires { ⌜ now floors ≡ noFloors (treeOf (now parents) (now costs) (now marks)) ⌝ }
     requires { ⌜ now vertices ≡ blank (treeOf (now parents) (now costs) (now marks)) ⌝ }
     requires { ⌜ now «by_arc» ≡ blank (treeOf (now parents) (now costs) (now marks)) ⌝ }
     requires { ⌜ now shares ≡ blank (treeOf (now parents) (now costs) (now marks)) ⌝ }
@@ -83,7 +85,7 @@ fn put_splits(
 {
     engine::list_members(parents, costs, marks, vertices);
     engine::split_by_arc(parents, costs, marks, by_arc);
-    let level = engine::split_level(parents, costs, marks, caps, shares);
+    let level = engine::split_level(parents, costs, marks, caps, floors, shares);
     let next = put_level(out, at, level);
     put_members(out, next, level, vertices, proposed, by_arc, shares)
 }
@@ -105,6 +107,7 @@ fn put_marked(
         (now (proposed .entry))) (now (out .exit)) r ⌝ }
 {
     let members = proposed.len();
+    let floors = [0u64; MOST_ARCS];
     let mut vertices = [0u16; MOST_ARCS];
     let mut by_arc = [0u64; MOST_ARCS];
     let mut shares = [0u64; MOST_ARCS];
@@ -114,6 +117,7 @@ fn put_marked(
         costs,
         marks,
         caps,
+        &floors[0..members],
         proposed,
         &mut vertices[0..members],
         &mut by_arc[0..members],

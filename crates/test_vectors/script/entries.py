@@ -13,6 +13,7 @@ from rules import (
     cap_sums,
     check_branch,
     check_caps,
+    check_floors,
     check_group,
     check_output,
     check_proposal,
@@ -100,12 +101,13 @@ def answer_shares(count, proposal):
     return "accepted"
 
 
-def answer_level(tree, caps, out):
+def answer_level(tree, caps, floors, out):
     check_tree(tree)
     count = member_count(tree)
     check_caps(count, caps)
+    check_floors(count, caps, floors)
     check_output(out, count)
-    out[:] = level_split(tree, caps)
+    out[:] = level_split(tree, caps, floors)
     return f"split {count}"
 
 

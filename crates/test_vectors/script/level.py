@@ -1,10 +1,10 @@
-"""The level split under caps (specification, §5), with no call of the engine."""
+"""The level split under caps and floors (specification, §5), with no call of the engine."""
 from collections import Counter
 from heapq import heapify, heappop, heapreplace
 from itertools import combinations, product
 from math import prod
 
-from rules import Refusal, arc_needs, arc_users, counted_costs, group_cost, whole_cost
+from rules import Refusal, arc_needs, arc_users, counted_costs, group_cost, member_vertices, whole_cost
 
 # up to here the slow calculations are made too, and compared
 MOST_UNITS = 2000
@@ -12,13 +12,37 @@ MOST_MEMBERS = 5
 MOST_LISTS = 2000
 
 
-def first_shortfall(tree, caps):
-    """The first arc from m down whose users' caps fall short of its need, and by how much; or None."""
-    needs, users = arc_needs(tree), arc_users(tree)
-    for arc in range(len(needs), 0, -1):
-        short = needs[arc - 1] - sum(caps[j] for j in users[arc - 1])
+def adjusted_needs(tree, floors):
+    """For each arc its adjusted need, and the sum of those of its child arcs.
+
+    At a member's arc it is the cost or the floor, at another the need or that sum, whichever is more; 0 without users.
+    """
+    number = {vertex: j for j, vertex in enumerate(member_vertices(tree))}
+    rows = list(enumerate(zip(tree.parents, arc_users(tree), counted_costs(tree), arc_needs(tree)), 1))
+    adjusted, below = [0] * len(rows), [0] * (len(rows) + 1)
+    for arc, (parent, users, cost, need) in reversed(rows):
+        if arc in number:
+            adjusted[arc - 1] = max(cost, floors[number[arc]])
+        elif users:
+            adjusted[arc - 1] = max(need, below[arc])
+        below[parent] += adjusted[arc - 1]
+    return adjusted, below[1:]
+
+
+def first_refusal(tree, caps, floors):
+    """The first refusal from arc m down, with its arc and shortfall; or None.
+
+    At each arc 9 where the users' caps fall short of the adjusted need, then 28 where the arc leaves the source and its
+    adjusted need is above its need.
+    """
+    adjusted, _ = adjusted_needs(tree, floors)
+    rows = zip(tree.parents, arc_users(tree), arc_needs(tree), adjusted)
+    for arc, (parent, users, need, wanted) in reversed(list(enumerate(rows, 1))):
+        short = wanted - sum(caps[j] for j in users)
         if short > 0:
-            return arc, short
+            return 9, arc, short
+        if parent == 0 and wanted > need:
+            return 28, arc, 0
     return None
 
 
@@ -60,15 +84,16 @@ def give_steps(shares, caps, users, amount):
     assert amount == 0
 
 
-def split(give, tree, caps):
+def split(give, tree, caps, floors):
+    """Each arc from m down gives out its adjusted need less the sum of those of its child arcs."""
     shares = [0] * len(caps)
-    for users, cost in reversed(list(zip(arc_users(tree), counted_costs(tree)))):
-        give(shares, caps, users, cost)
+    for users, wanted, below in reversed(list(zip(arc_users(tree), *adjusted_needs(tree, floors)))):
+        give(shares, caps, users, wanted - below)
     return shares
 
 
-def all_lists(tree, caps):
-    """Every whole list within the caps and in the core; None where there are too many to try.
+def all_lists(tree, caps, floors):
+    """Every whole list from the floors to the caps and in the core; None where there are too many to try.
 
     A member pays at most the cost of its own network, and at least what is left after the others pay that of theirs.
     """
@@ -82,7 +107,8 @@ def all_lists(tree, caps):
     }
     whole = group_costs[tuple(everyone)]
     others = [group_costs[tuple(k for k in everyone if k != j)] for j in everyone]
-    ranges = [range(whole - others[j], min(caps[j], group_costs[(j,)]) + 1) for j in everyone]
+    least = [max(floors[j], whole - others[j]) for j in everyone]
+    ranges = [range(least[j], min(caps[j], group_costs[(j,)]) + 1) for j in everyone]
     if not all(ranges):
         return []
     if prod(map(len, ranges)) > MOST_LISTS:
@@ -99,14 +125,17 @@ def least_squares(lists):
     return min(sum(share * share for share in shares) for shares in lists)
 
 
-def level_split(tree, caps):
-    """The shares, or refusal 9."""
-    case = tree, caps
-    short = first_shortfall(*case)
+def level_split(tree, caps, floors=None):
+    """The shares, or refusal 9 or 28; the floors are 0 where none are handed in."""
+    none = [0] * len(caps)
+    case = tree, caps, floors or none
+    found = first_refusal(*case)
     lists = all_lists(*case)
-    if short:
+    if found:
         assert not lists, case
-        raise Refusal(9, *short)
+        # a shortfall is the one that there is without floors
+        assert found[0] == 28 or found == first_refusal(tree, caps, none), case
+        raise Refusal(*found)
     shares = split(give_steps, *case)
     if whole_cost(tree) <= MOST_UNITS:
         assert shares == split(give_units, *case), case

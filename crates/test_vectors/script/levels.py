@@ -9,8 +9,11 @@ from trees import FAULTY
 GREATEST = 2**64 - 1
 
 
-def level_of(tree, caps):
-    return "level", tree, caps, member_count(tree)
+def level_of(tree, caps, floors=None, length=None):
+    """With floors of 0 and an output of the right length, where none are handed in."""
+    count = member_count(tree)
+    floors = [0] * count if floors is None else floors
+    return "level", tree, caps, floors, count if length is None else length
 
 
 def small_levels():
@@ -83,12 +86,12 @@ def cap_refusals():
     for caps in lists:
         yield "caps", 3, caps
         for length in (0, 2, 3, 4, 1023, 1100):
-            yield "level", T, caps, length
+            yield level_of(T, caps, length=length)
     # the tree before all of these
     for tree in FAULTY:
         for caps in ([], [outside], [1, GREATEST, 2], [0] * 5):
             yield level_of(tree, caps)
-            yield "level", tree, caps, 7
+            yield level_of(tree, caps, length=7)
     for parents in (star(1024), [1] * 1024):
         yield level_of(all_marked(parents, [MOST_COST + 1] * 3), [outside])
 
@@ -140,7 +143,7 @@ def random_levels():
         caps = random_caps(dice, tree)
         yield level_of(tree, caps)
         if turn % 8 == 0:
-            yield "level", tree, caps, len(caps) + dice.choice([-1, 1])
+            yield level_of(tree, caps, length=len(caps) + dice.choice([-1, 1]))
         if turn % 8 == 1:
             yield "caps", len(caps) + dice.choice([-1, 0, 1]), caps
         if turn % 8 == 2:

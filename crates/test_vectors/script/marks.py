@@ -87,7 +87,7 @@ def spare_networks():
         yield "group", tree, words_of(range(ends))
         yield from proposed(tree, [0] * ends)
         yield level_of(tree, [MOST_CAP] * ends)
-        yield "level", tree, [MOST_CAP] * count, ends
+        yield level_of(tree, [MOST_CAP] * count, length=ends)
         yield "byarc", tree, ends
     # a cost above the limit is refused where nobody pays it too
     yield from every_entry(Tree(T.parents, [6, 1, LARGE, 4], T_SPARE.marks))

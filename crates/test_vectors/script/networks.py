@@ -108,3 +108,22 @@ def random_caps(dice, tree):
     if change == "most":
         caps[j] = MOST_CAP
     return caps
+
+
+def random_bounds(dice, tree):
+    """Caps and floors about a list that passes: some stop nobody, some leave no other list, and some none."""
+    paid = random_payers(dice, tree)
+    slack = dice.choice([0, 1, 3, max(counted_costs(tree)), whole_cost(tree)])
+    caps = [share + dice.choice([0, dice.randint(0, slack), slack]) for share in paid]
+    floors = [max(0, share - dice.choice([0, dice.randint(0, slack), slack])) for share in paid]
+    change = dice.choice(["none"] * 4 + ["caps"] * 2 + ["floors"] * 2 + ["both"] * 2 + ["above"])
+    i, j = dice.randrange(len(paid)), dice.randrange(len(paid))
+    if change in ("caps", "both"):
+        caps[i] = max(0, caps[i] - dice.randint(1, slack + 1))
+        floors[i] = min(floors[i], caps[i])
+    if change in ("floors", "both"):
+        floors[j] += dice.randint(1, slack + 1)
+        caps[j] = max(floors[j], caps[j])
+    if change == "above":
+        floors[j] = caps[j] + dice.choice([1, 1, slack + 1])
+    return caps, floors

@@ -4,7 +4,7 @@ import re
 from rules import Refusal, all_marked, arc_needs, arc_users, cap_sums, check_tree, member_vertices, whole_cost
 from entries import answer
 
-# the commands whose answers hold no vertex, and no arc but that of refusal 9
+# the commands whose answers hold no vertex, and no arc but that of refusals 9 and 28
 COMPARED = {"check", "count", "group", "total", "search", "level", "byarc"}
 
 
@@ -17,8 +17,8 @@ def pruned(tree):
 
 
 def as_before(line, kept):
-    """The line with the old number of the arc of refusals 9, 25 and 26."""
-    return re.sub(r"^(refused (?:9|25|26) at )(\d+)", lambda found: f"{found[1]}{kept[int(found[2]) - 1]}", line)
+    """The line with the old number of the arc of refusals 9, 25, 26 and 28."""
+    return re.sub(r"^(refused (?:9|25|26|28) at )(\d+)", lambda found: f"{found[1]}{kept[int(found[2]) - 1]}", line)
 
 
 def alone(tree, users):

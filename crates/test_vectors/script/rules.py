@@ -95,6 +95,14 @@ def check_caps(count, caps):
     check_entries(count, caps, 0, MOST_CAP)
 
 
+def check_floors(count, caps, floors):
+    """6 and 7 as of caps, then 27 at the lowest member whose floor is above its cap."""
+    check_entries(count, floors, 0, MOST_CAP)
+    for j, (floor, cap) in enumerate(zip(floors, caps)):
+        if floor > cap:
+            raise Refusal(27, j)
+
+
 def check_branch(tree, arc):
     """25 unless it is an arc from the source, then 26 where it has fewer than two users."""
     if not 1 <= arc <= len(tree.parents) or tree.parents[arc - 1] != 0:

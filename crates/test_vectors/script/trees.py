@@ -34,7 +34,7 @@ def every_entry(tree, words=words_of([0])):
         ("group", tree, words),
         *proposed(tree, [0] * count),
         ("shares", count, [0] * count),
-        ("level", tree, [sum(tree.costs)] * count, count),
+        ("level", tree, [sum(tree.costs)] * count, [0] * count, count),
         ("caps", count, [0] * count),
         ("byarc", tree, count),
         ("deadends", tree.parents, tree.costs, arcs),

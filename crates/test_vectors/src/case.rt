@@ -1,10 +1,11 @@
-// One case: a command, a tree, and for some commands one field or two more; or parents, costs and a length; or a number
-// of members and a list with an entry each; or a job; or the note and the lists of a job and a length; or a state and
-// steps.
+// One case: a command, a tree, and for some commands up to three fields more; or parents, costs and a length; or a
+// number of members and a list with an entry each; or a job; or the note and the lists of a job and a length; or a
+// state and steps.
 use crate::command;
 use crate::command::Command;
 use crate::event_case;
 use crate::job_case;
+use crate::level_case;
 use crate::print;
 use crate::state_case;
 use crate::write_case;
@@ -100,40 +101,13 @@ fn with_proposal(c: Command, parents: &[u16], costs: &[u32], marks: &[u16], shar
 }
 
 // As list_members.
-fn split_level(parents: &[u16], costs: &[u32], marks: &[u16], caps: &[u64], out: &mut [u64]) {
-    print::level_split(engine::split_level(parents, costs, marks, caps, out));
-    test_lines::print::list(out);
-}
-
-// As list_members.
 fn list_cap_sums(parents: &[u16], costs: &[u32], marks: &[u16], caps: &[u64], out: &mut [u64]) {
     print::cap_sums_found(engine::list_cap_sums(parents, costs, marks, caps, out));
     test_lines::print::list(out);
 }
 
-fn on_caps(
-    c: Command,
-    parents: &[u16],
-    costs: &[u32],
-    marks: &[u16],
-    caps: &[u64],
-    out: &mut [u64],
-) {
-    match c {
-        Command::Level => split_level(parents, costs, marks, caps, out),
-        _ => list_cap_sums(parents, costs, marks, caps, out),
-    }
-}
-
 // As members; the field before the length has the caps.
-fn with_caps(
-    c: Command,
-    parents: &[u16],
-    costs: &[u32],
-    marks: &[u16],
-    entries: &[u8],
-    length: &[u8],
-) {
+fn cap_sums(parents: &[u16], costs: &[u32], marks: &[u16], entries: &[u8], length: &[u8]) {
     let mut caps = [0u64; MOST];
     let found = list::read(entries, u64::MAX, &mut caps);
     let wanted = number::up_to(length, MOST as u64);
@@ -146,7 +120,7 @@ fn with_caps(
     let k = found.count;
     let n = wanted.value as usize;
     let mut out = [9u64; MOST];
-    on_caps(c, parents, costs, marks, &caps[0..k], &mut out[0..n]);
+    list_cap_sums(parents, costs, marks, &caps[0..k], &mut out[0..n]);
 }
 
 // As list_members.
@@ -190,14 +164,8 @@ fn dead_ends(parents: &[u16], costs: &[u32], length: &[u8]) {
 }
 
 // A field that the line does not have comes as no bytes.
-fn on_tree(
-    c: Command,
-    parents: &[u16],
-    costs: &[u32],
-    marks: &[u16],
-    after_tree: &[u8],
-    last: &[u8],
-) {
+fn on_tree(c: Command, line: &[u8], parents: &[u16], costs: &[u32], marks: &[u16]) {
+    let after_tree = field::nth(line, 4);
     match c {
         Command::Check => print::checked(engine::check_tree(parents, costs, marks)),
         Command::Count => print::member_count(engine::count_members(parents, costs, marks)),
@@ -206,10 +174,10 @@ fn on_tree(
         Command::Group => group(parents, costs, marks, after_tree),
         Command::Total => with_proposal(c, parents, costs, marks, after_tree),
         Command::Search => with_proposal(c, parents, costs, marks, after_tree),
-        Command::Level => with_caps(c, parents, costs, marks, after_tree, last),
+        Command::Level => level_case::run(line, parents, costs, marks),
         Command::ByArc => by_arc(parents, costs, marks, after_tree),
-        Command::CapSums => with_caps(c, parents, costs, marks, after_tree, last),
-        Command::Margin => margin(parents, costs, marks, after_tree, last),
+        Command::CapSums => cap_sums(parents, costs, marks, after_tree, field::nth(line, 5)),
+        Command::Margin => margin(parents, costs, marks, after_tree, field::nth(line, 5)),
         Command::State => state_case::run(parents, costs, marks, after_tree),
         _ => print::bad_case(),
     }
@@ -223,14 +191,7 @@ fn with_marks(c: Command, line: &[u8], parents: &[u16], costs: &[u32]) {
         return print::bad_case();
     }
     let n = found.count;
-    on_tree(
-        c,
-        parents,
-        costs,
-        &marks[0..n],
-        field::nth(line, 4),
-        field::nth(line, 5),
-    );
+    on_tree(c, line, parents, costs, &marks[0..n]);
 }
 
 // One command takes no marks: its field 3 is the length.

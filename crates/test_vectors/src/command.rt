@@ -69,7 +69,7 @@ pub fn fields(c: Command) -> usize
         Command::Total => 5,
         Command::Search => 5,
         Command::Shares => 3,
-        Command::Level => 6,
+        Command::Level => 7,
         Command::Caps => 3,
         Command::ByArc => 5,
         Command::DeadEnds => 4,

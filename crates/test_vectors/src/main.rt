@@ -4,6 +4,7 @@ mod command;
 mod event_case;
 mod event_text;
 mod job_case;
+mod level_case;
 mod lines;
 mod print;
 mod state_case;

@@ -1,7 +1,7 @@
 //! The definitions of docs/SPECIFICATION.md word for word, for small networks: every group,
 //! every arc of every path, every unit, every split.
 
-use crate::reference::Tree;
+use crate::reference::{refusal, refuse, Answer, Refusal, Tree};
 
 /// Whether the arc lies on the way from the source to the vertex.
 fn on_path(tree: &Tree, arc: usize, mut vertex: usize) -> bool {
@@ -113,18 +113,64 @@ pub fn cap_sums(tree: &Tree, caps: &[u64]) -> Vec<u64> {
     all.map(|arc| cap_sum(tree, caps, arc)).collect()
 }
 
-/// The level split unit by unit; none where no user is below their cap.
-pub fn level(tree: &Tree, caps: &[u64]) -> Option<Vec<u64>> {
+/// An arc's adjusted need, and the sum of those of its child arcs.
+fn adjusted_need(tree: &Tree, needs: &[u64], floors: &[u64], arc: usize) -> (u64, u64) {
+    let need = needs[arc - 1];
+    if let Some(member) = tree.members.iter().position(|&vertex| vertex == arc) {
+        return (need.max(floors[member]), 0);
+    }
+    let children = (1..=tree.arcs()).filter(|&child| tree.parent[child] == arc);
+    let sum = children
+        .map(|child| adjusted_need(tree, needs, floors, child).0)
+        .sum();
+    (need.max(sum), sum)
+}
+
+/// The level split unit by unit: 9 where a unit is left and no user is below
+/// their cap, 28 once an arc from the source has given out more than its need.
+/// No floor is above its cap.
+pub fn level(tree: &Tree, caps: &[u64], floors: &[u64]) -> Answer<Vec<u64>> {
+    let needs = needs(tree);
     let mut shares = vec![0; tree.members.len()];
     for arc in (1..=tree.arcs()).rev() {
         let users = users(tree, arc);
-        for _ in 0..cost(tree, arc) {
+        let (adjusted, sum) = adjusted_need(tree, &needs, floors, arc);
+        for shortfall in (1..=adjusted - sum).rev() {
             let open = users.iter().filter(|&&j| shares[j] < caps[j]);
-            let &member = open.min_by_key(|&&j| (shares[j], j))?;
+            let Some(&member) = open.min_by_key(|&&j| (shares[j], j)) else {
+                let short = refusal(9, arc);
+                return Err(Refusal { shortfall, ..short });
+            };
             shares[member] += 1;
         }
+        if tree.parent[arc] == 0 && adjusted > needs[arc - 1] {
+            return refuse(28, arc);
+        }
     }
-    Some(shares)
+    Ok(shares)
+}
+
+/// Whether no group pays more than its cost. All members together cost the
+/// whole cost.
+fn in_core(costs: &[u64], shares: &[u64]) -> bool {
+    let pays = |group: usize| {
+        let inside = (0..shares.len()).filter(|j| group >> j & 1 == 1);
+        inside.map(|j| shares[j]).sum::<u64>()
+    };
+    let all = costs.len() - 1;
+    pays(all) == costs[all] && (0..all).all(|group| pays(group) <= costs[group])
+}
+
+/// All lists in the core with every share from its floor to its cap. No floor is
+/// below 0, so that the lists without a share below 0 are enough.
+pub fn kept_lists(costs: &[u64], caps: &[u64], floors: &[u64]) -> Vec<Vec<u64>> {
+    let between = |list: &Vec<u64>| {
+        let mut places = 0..list.len();
+        places.all(|j| (floors[j]..=caps[j]).contains(&list[j]))
+    };
+    let all = lists(costs[costs.len() - 1], caps.len()).into_iter();
+    let kept = all.filter(|list| between(list) && in_core(costs, list));
+    kept.collect()
 }
 
 /// The users to whom an arc's leftover units go: of all groups of as many users

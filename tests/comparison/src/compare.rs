@@ -3,6 +3,7 @@
 
 use crate::ffi::{self, *};
 use crate::lent::Lent;
+use crate::level;
 use crate::margin;
 use crate::reference::{self, Answer, Refusal, Tree};
 use crate::tally::Tally;
@@ -256,11 +257,18 @@ impl Network {
         tally.case("list_cap_sums", expected.refusal, [given, expected], lists);
     }
 
-    pub fn split_level(&self, tally: &mut Tally, caps: &[u64], out: &[u64]) {
-        let answer = reference::split_level(self.tree(), caps, out.len());
+    pub fn split_level(&self, tally: &mut Tally, caps: &[u64], floors: &[u64], out: &[u64]) {
+        let answer = level::split_level(self.tree(), caps, floors, out.len());
         let (p, c, m) = self.lend();
-        let (limits, mut lent) = (Lent::new(caps), Lent::new(out));
-        let given = ffi::split_level(p.list(), c.list(), m.list(), limits.list(), lent.list_mut());
+        let (most, least, mut lent) = (Lent::new(caps), Lent::new(floors), Lent::new(out));
+        let given = ffi::split_level(
+            p.list(),
+            c.list(),
+            m.list(),
+            most.list(),
+            least.list(),
+            lent.list_mut(),
+        );
         let expected = match &answer {
             Ok(shares) => ZilqodurLevel {
                 members: shares.len(),
@@ -273,8 +281,8 @@ impl Network {
                 members: 0,
             },
         };
-        let lists =
-            self.kept(&p, &c, &m) && limits.holds(caps) && lent.holds(&written(out, answer));
+        let kept = self.kept(&p, &c, &m) && most.holds(caps) && least.holds(floors);
+        let lists = kept && lent.holds(&written(out, answer));
         tally.case("split_level", expected.refusal, [given, expected], lists);
     }
 

@@ -263,6 +263,8 @@ unsafe extern "C" {
         marks_count: usize,
         caps: *const u64,
         caps_count: usize,
+        floors: *const u64,
+        floors_count: usize,
         out: *mut u64,
         out_count: usize,
     ) -> ZilqodurLevel;
@@ -513,6 +515,7 @@ pub fn split_level(
     costs: &[u32],
     marks: &[u16],
     caps: &[u64],
+    floors: &[u64],
     out: &mut [u64],
 ) -> ZilqodurLevel {
     unsafe {
@@ -525,6 +528,8 @@ pub fn split_level(
             marks.len(),
             caps.as_ptr(),
             caps.len(),
+            floors.as_ptr(),
+            floors.len(),
             out.as_mut_ptr(),
             out.len(),
         )

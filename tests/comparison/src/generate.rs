@@ -1,6 +1,7 @@
 //! Pseudo-random trees, groups and lists: valid, at the limits and past them.
 
 use crate::compare::Network;
+use crate::level;
 use crate::reference::{dead_ends, Tree, AMOUNT, ARCS, COST};
 use crate::rng::Rng;
 
@@ -253,7 +254,7 @@ pub fn group(rng: &mut Rng, members: usize) -> [u64; 16] {
 }
 
 /// Shares in the core: each arc's cost is paid by one or two of its users.
-fn core_shares(rng: &mut Rng, tree: &Tree) -> Vec<u64> {
+pub fn core_shares(rng: &mut Rng, tree: &Tree) -> Vec<u64> {
     let mut shares = vec![0; tree.members.len()];
     for arc in tree.used() {
         let part = rng.up_to(tree.cost[arc]);
@@ -265,9 +266,10 @@ fn core_shares(rng: &mut Rng, tree: &Tree) -> Vec<u64> {
 
 /// Some list in the core.
 fn fair_shares(rng: &mut Rng, tree: &Tree) -> Vec<u64> {
+    let members = tree.members.len();
     match rng.below(3) {
         0 => tree.by_arc(),
-        1 => tree.level(&vec![AMOUNT; tree.members.len()]),
+        1 => level::shares(tree, &vec![AMOUNT; members], &vec![0; members]),
         _ => core_shares(rng, tree),
     }
 }

@@ -1,19 +1,23 @@
 //! Compares the archive with the reference on pseudo-random inputs from fixed
 //! seeds: comparison [PERCENT OF THE ROUNDS] [CANARIES ON EACH SIDE OF A LIST]
-//! A run of all rounds fails where a case of rare.rs was never met.
+//! A run of all rounds fails where a case of rare.rs or rare_level.rs was never met.
 
 mod brute;
 mod compare;
 mod compare_job;
+mod compare_level;
 mod compare_state;
 mod ffi;
 mod generate;
 mod generate_job;
+mod generate_level;
 mod generate_state;
 mod job;
 mod lent;
+mod level;
 mod margin;
 mod rare;
+mod rare_level;
 mod reference;
 mod report;
 mod rng;
@@ -58,6 +62,7 @@ fn main() {
     table::compare(&mut tally);
     compare_longest(&mut tally);
     compare_leftovers(&mut tally);
+    compare_level::small_trees(&mut tally, percent);
     for phase in PHASES {
         for round in 0..(phase.rounds * percent).div_ceil(100) {
             tally.seed = phase.seed + round;
@@ -104,9 +109,11 @@ fn compare_round(tally: &mut Tally, rng: &mut Rng, arcs: usize) {
     compare_state::round(tally, state_rng, &network);
     compare_tree(tally, rng, &network, &tree);
     compare_lists(tally, rng, &network, &tree, 3);
+    compare_level::round(tally, rng, &network, &tree, 3);
     compare_branches(tally, rng, &network, &tree, 3);
     let branch = generate::one_branch(&network);
     let branch_tree = branch.tree().expect("generated trees are accepted");
+    compare_level::round(tally, rng, &branch, &branch_tree, 2);
     compare_branches(tally, rng, &branch, &branch_tree, 2);
     let mut job = generate_job::valid(rng, &network.parents, &network.costs);
     let length = job.write().len();
@@ -121,6 +128,7 @@ fn compare_round(tally: &mut Tally, rng: &mut Rng, arcs: usize) {
     rare::note_faults(tally, &network.faults());
     compare_tree(tally, rng, &network, &tree);
     compare_lists(tally, rng, &network, &tree, 1);
+    compare_level::round(tally, rng, &network, &tree, 1);
     compare_branches(tally, rng, &network, &tree, 1);
     compare_state::round(tally, state_rng, &network);
     job.fillers.resize(network.parents.len(), 0);
@@ -157,15 +165,11 @@ fn compare_lists(tally: &mut Tally, rng: &mut Rng, network: &Network, tree: &Tre
         generate::damage_proposal(rng, &mut proposal);
         compare_proposal(tally, network, members, &proposal);
         let mut caps = generate::caps(rng, tree);
-        let length = generate::length(rng, members);
-        let out = filled(rng, length, |n| n);
         let length = generate::length(rng, tree.arcs());
         let sums = filled(rng, length, |n| n);
-        network.split_level(tally, &caps, &out);
         network.list_cap_sums(tally, &caps, &sums);
         compare::check_caps(tally, members, &caps);
         generate::damage_caps(rng, &mut caps);
-        network.split_level(tally, &caps, &out);
         network.list_cap_sums(tally, &caps, &sums);
         compare::check_caps(tally, members, &caps);
     }
@@ -315,14 +319,7 @@ fn compare_definitions(tally: &mut Tally, rng: &mut Rng, tree: &Tree) {
         "definition of the by-arc split",
         brute::by_arc(tree) == tree.by_arc(),
     );
-    for _ in 0..3 {
-        let caps = generate::caps(rng, tree);
-        let shares = tree.check_short(&caps).ok().map(|()| tree.level(&caps));
-        case(
-            "definition of the level split",
-            brute::level(tree, &caps) == shares,
-        );
-    }
+    compare_level::definitions(tally, rng, tree, &costs);
 }
 
 /// The total and the group search, on a proposal of any total.

@@ -7,15 +7,17 @@
 use crate::ffi::ZilqodurEvent;
 use crate::job::Fault;
 use crate::margin::{self, Branch};
+use crate::rare_level;
 use crate::reference::{Refusal, Tree, ARCS, COST};
 use crate::state::EVENTS;
 use crate::tally::Tally;
 
-const TREE: [u32; 7] = [1, 2, 3, 4, 16, 17, 18];
+pub const TREE: [u32; 7] = [1, 2, 3, 4, 16, 17, 18];
 
-/// The refusals of each entry, with whether it has those of a tree too.
+/// The refusals of each entry, with whether it has those of a tree too; and those
+/// under which the level split is held against its definitions.
 #[rustfmt::skip]
-const REFUSALS: [(&str, bool, &[u32]); 21] = [
+const REFUSALS: [(&str, bool, &[u32]); 23] = [
     ("check_tree", true, &[]),
     ("check_caps", false, &[6, 7]),
     ("check_proposal", false, &[6, 7]),
@@ -27,7 +29,7 @@ const REFUSALS: [(&str, bool, &[u32]); 21] = [
     ("check_total", true, &[6, 7]),
     ("find_group", true, &[6, 7]),
     ("list_cap_sums", true, &[6, 7, 8]),
-    ("split_level", true, &[6, 7, 8, 9]),
+    ("split_level", true, &[6, 7, 27, 8, 9, 28]),
     ("split_by_arc", true, &[8]),
     ("split_margin", true, &[25, 26, 8]),
     ("make_state", true, &[]),
@@ -37,6 +39,8 @@ const REFUSALS: [(&str, bool, &[u32]); 21] = [
     ("job_length", false, &[1, 2, 3, 4, 6, 7, 19]),
     ("write_job", false, &[1, 2, 3, 4, 6, 7, 19, 20]),
     ("report", false, &[]),
+    ("definition of the level split", false, &[9, 28]),
+    ("definition of the level split over all lists", false, &[9, 27, 28]),
 ];
 
 /// The first two faults of a tree's lists, standing at one arc. 16 and 17
@@ -233,7 +237,7 @@ fn longest_unused(tree: &Tree) -> usize {
     run.into_iter().max().unwrap()
 }
 
-fn note(tally: &mut Tally, name: &str, holds: bool) {
+pub fn note(tally: &mut Tally, name: &str, holds: bool) {
     if holds {
         tally.met.insert(name.to_string());
     }
@@ -396,6 +400,7 @@ pub fn unmet(tally: &Tally) -> Vec<String> {
     let rare = rare.chain(leftovers).chain(proposals).chain(reports);
     let rare = rare.chain(of_branch).chain(branches);
     let rare = rare.chain(states).chain(events).chain(quote_meetings());
+    let rare = rare.chain(rare_level::wanted());
     unmet.extend(rare.filter(|case| !tally.met.contains(case)));
     unmet
 }

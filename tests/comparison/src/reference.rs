@@ -203,27 +203,6 @@ impl Tree {
         self.users[1..].iter().map(sum).collect()
     }
 
-    /// The first arc from the last down whose users' caps fall short of its need.
-    pub fn check_short(&self, caps: &[u64]) -> Answer<()> {
-        let (needs, sums) = (self.needs(), self.cap_sums(caps));
-        match (0..self.arcs()).rev().find(|&i| sums[i] < needs[i]) {
-            Some(i) => Err(Refusal {
-                number: 9,
-                place: i + 1,
-                shortfall: needs[i] - sums[i],
-            }),
-            None => Ok(()),
-        }
-    }
-
-    pub fn level(&self, caps: &[u64]) -> Vec<u64> {
-        let mut shares = vec![0; self.members.len()];
-        for arc in self.used() {
-            raise(&mut shares, &self.users[arc], caps, self.cost[arc]);
-        }
-        shares
-    }
-
     /// The users of the arc in the order in which its leftover units go to them:
     /// those with the smallest tally first, of equal ones the lowest number.
     pub fn in_turn(&self, arc: usize, tallies: &[u64]) -> Vec<usize> {
@@ -332,14 +311,6 @@ pub fn list_cap_sums(tree: Answer<Tree>, caps: &[u64], length: usize) -> Answer<
     check_caps(tree.members.len(), caps)?;
     check_output(length, tree.arcs())?;
     Ok((caps.iter().sum(), tree.cap_sums(caps)))
-}
-
-pub fn split_level(tree: Answer<Tree>, caps: &[u64], length: usize) -> Answer<Vec<u64>> {
-    let tree = tree?;
-    check_caps(tree.members.len(), caps)?;
-    check_output(length, tree.members.len())?;
-    tree.check_short(caps)?;
-    Ok(tree.level(caps))
 }
 
 pub fn split_by_arc(tree: Answer<Tree>, length: usize) -> Answer<Vec<u64>> {

@@ -1,6 +1,7 @@
 //! The report on a job (specification, §9).
 
 use crate::job::{self, Job};
+use crate::level;
 use crate::reference::{self, ARCS};
 
 pub fn text(bytes: &[u8]) -> String {
@@ -33,9 +34,10 @@ fn audit(job: &Job) -> String {
     lines
 }
 
-/// The level split's line, and what each member's line says of it.
+/// The level split's line, and what each member's line says of it. A job of
+/// version 1 has no floors.
 fn level(job: &Job, members: usize) -> (String, Vec<String>) {
-    match reference::split_level(job.tree(), &job.caps, members) {
+    match level::split_level(job.tree(), &job.caps, &vec![0; members], members) {
         Ok(shares) => ("ok".into(), shares.iter().map(u64::to_string).collect()),
         Err(r) => {
             let line = format!("refused {} at {} short {}", r.number, r.place, r.shortfall);

@@ -6,6 +6,7 @@ use crate::compare_job;
 use crate::compare_state;
 use crate::ffi::{ZilqodurEvent, ZilqodurQuote};
 use crate::job::{self, Job};
+use crate::level;
 use crate::margin;
 use crate::reference::{self, refuse, Answer, Refusal, AMOUNT};
 use crate::report;
@@ -82,10 +83,29 @@ fn cap_sums(tally: &mut Tally, n: &Network, caps: &[u64], total: u64, expected: 
     n.list_cap_sums(tally, caps, &vec![77; expected.len()]);
 }
 
+/// Without floors.
 fn level(tally: &mut Tally, n: &Network, caps: &[u64], expected: Answer<Vec<u64>>) {
-    let found = reference::split_level(n.tree(), caps, caps.len());
+    floored(tally, n, caps, &vec![0; caps.len()], expected);
+}
+
+fn floored(
+    tally: &mut Tally,
+    n: &Network,
+    caps: &[u64],
+    floors: &[u64],
+    expected: Answer<Vec<u64>>,
+) {
+    let found = level::split_level(n.tree(), caps, floors, caps.len());
     named(tally, found, expected);
-    n.split_level(tally, caps, &vec![77; caps.len()]);
+    n.split_level(tally, caps, floors, &vec![77; caps.len()]);
+}
+
+fn short<T>(place: usize, shortfall: u64) -> Answer<T> {
+    Err(Refusal {
+        number: 9,
+        place,
+        shortfall,
+    })
 }
 
 fn by_arc(tally: &mut Tally, n: &Network, expected: &[u64]) {
@@ -197,12 +217,7 @@ pub fn compare(tally: &mut Tally) {
     cap_sums(tally, &t, &[3, 9, 4], 16, &[12, 3, 9, 4]);
     level(tally, &t, &[100, 100, 100], Ok(vec![6, 6, 4]));
     level(tally, &t, &[3, 9, 4], Ok(vec![3, 9, 4]));
-    let short = Refusal {
-        number: 9,
-        place: 1,
-        shortfall: 1,
-    };
-    level(tally, &t, &[3, 8, 100], Err(short));
+    level(tally, &t, &[3, 8, 100], short(1, 1));
     by_arc(tally, &t, &[4, 8, 4]);
     let u = network(&[0, 1, 1], &[7, 0, 0], &[0, 1, 1]);
     by_arc(tally, &u, &[4, 3]);
@@ -211,12 +226,34 @@ pub fn compare(tally: &mut Tally) {
     by_arc(tally, &x, &[1, 1]);
     let w = network(&[0, 1, 1, 0], &[10, 1, 1, 8], &[0, 1, 1, 1]);
     proposal(tally, &w, &[7, 7, 6], (0, 2, &[0, 1]));
+    floors(tally, &t);
     branches(tally, &t);
     spare(tally);
     limits(tally, &t);
     marks(tally);
     events(tally, &t);
     sample_job(tally, t);
+}
+
+fn floors(tally: &mut Tally, t: &Network) {
+    for (floors, expected) in [
+        ([0, 0, 0], Ok(vec![6, 6, 4])),
+        ([7, 0, 0], Ok(vec![7, 5, 4])),
+        ([0, 7, 0], Ok(vec![5, 7, 4])),
+        ([8, 0, 0], refuse(28, 1)),
+        ([0, 0, 5], refuse(28, 4)),
+    ] {
+        floored(tally, t, &[100, 100, 100], &floors, expected);
+    }
+    for (caps, floors, expected) in [
+        ([4, 7, 4], [0, 7, 0], short(1, 1)),
+        ([2, 100, 100], [3, 0, 0], refuse(27, 0)),
+        ([0, 0, 5], [0, 0, 5], refuse(28, 4)),
+        ([100, 100, 3], [8, 0, 0], short(4, 1)),
+        ([2, 10, 4], [2, 10, 4], Ok(vec![2, 10, 4])),
+    ] {
+        floored(tally, t, &caps, &floors, expected);
+    }
 }
 
 /// T; then a tree in which all use arcs 1 and 2, and in which the raised need of

@@ -8,7 +8,7 @@ use Rattle.game.specs.Network.{memberCount}
 use Rattle.game.specs.Tree.{networkOf}
 use Rattle.answer_forms.specs.Answer.{Check, accepted, _then_}
 use Rattle.answers.specs.Checks.{lengthCheck}
-use Rattle.answers.specs.Level.{capsCheck}
+use Rattle.answers.specs.Level.{capsCheck, floorsCheck, limitsCheck}
 use Rattle.answer_forms.proofs.Composed.{first-accepted, second-accepted}
 use Rattle.answers.proofs.Accepted.{length-accepted}
 use Rattle.answer_forms.specs.Checked.{checkOf}
@@ -21,13 +21,13 @@ use Rattle.engine.proofs.level_split.split_in_tree.Tie as tie
 
 -- what is handed in, and the checks on its lists
 abbrev start : tie.After-count-members → tie.Start
-start c = c .before .before .before .before .before .before
+start c = c .before .before .before .before .before .before .before
 
 abbrev members : tie.Start → ℕ
 members s = memberCount (networkOf (now (s .args .parents)) (now (s .args .costs)) (now (s .args .marks)))
 
 abbrev limits : tie.Start → ℕ → Check
-limits s n = capsCheck n (now (s .args .caps))
+limits s n = limitsCheck n (now (s .args .caps)) (now (s .args .floors))
 
 abbrev output : tie.Start → ℕ → Check
 output s n = lengthCheck n (length (now (s .args .out)))
@@ -46,7 +46,7 @@ lists-found : (c : tie.After-first-refusal)
     → checkOf (c .first-refusal .result) ≡ lists (start (count c)) (members (start (count c)))
 lists-found c =
     c .first-refusal .ensures
-    ∙ rw (c .before .before .check-caps .ensures, c .before .check-output .ensures)
+    ∙ rw (c .before .before .check-limits .ensures, c .before .check-output .ensures)
     (ap (lists (start (count c))) (counted (count c)))
 
 returns : tie.Need-returns
@@ -72,10 +72,15 @@ split-accepted-requires c κs =
     let s = start number in
     let pre = s .pre in
     let ok = accepted-lists told in
-    let caps = first-accepted (limits s (members s)) (output s (members s)) ok in
+    let all = first-accepted (limits s (members s)) (output s (members s)) ok in
+    let upper = capsCheck (members s) (now (s .args .caps)) in
+    let lower = capsCheck (members s) (now (s .args .floors)) in
+    let between = floorsCheck (members s) (now (s .args .caps)) (now (s .args .floors)) in
+    let caps = first-accepted upper (lower then between) all in
+    let floors = first-accepted lower between (second-accepted upper (lower then between) all) in
     let places = length-accepted _ _ (second-accepted (limits s (members s)) (output s (members s)) ok) in
     let room = zeros-length mostArcs _ (few number) ∙ counted number in
-    (pre .0, (pre .1 .0, (pre .1 .1, (caps, (room, places)))))
+    (pre .0, (pre .1 .0, (pre .1 .1, (caps, (floors, (room, places))))))
 
 returns-2 : tie.Need-returns-2
 returns-2 c =

@@ -15,13 +15,14 @@ tree s = treeOf (now (s .args .parents)) (now (s .args .costs)) (now (s .args .m
 
 returns : tie.Need-returns
 returns c =
-    let s = c .before .before .before .before .before .before .before .before .before .before in
+    let s = c .before .before .before .before .before .before .before .before .before .before .before in
     let away = turned-away (c .before .before .before .before .check-tree .ensures)
     (c .before .before .enum-told2 .given .1) (c .before .refusal-of .ensures) in
-    tree-turned-down (tree s) (now (s .args .caps)) (now (s .args .out)) away (c .refused .ensures)
+    tree-turned-down (tree s) (now (s .args .caps)) (now (s .args .floors)) (now (s .args .out)) away
+    (c .refused .ensures)
 
 abbrev start : tie.After-enum-told → tie.Start
-start c = c .before .before .before .before .before .before .before .before
+start c = c .before .before .before .before .before .before .before .before .before
 
 accepted-tree : (c : tie.After-enum-told) → treeCheck (tree (start c)) ≡ accepted
 accepted-tree c = opened (c .before .before .check-tree .ensures) (c .enum-told .given .1)
@@ -47,8 +48,8 @@ returns-2 c =
     let s = start (costs .before .before) in
     let part = counted-part (tree s) (costs .write-counted .ensures) in
     let inner = c .before .before .split-in-tree .ensures in
-    tree-taken (tree s) (now (s .args .caps)) (now (s .args .out)) (accepted-tree (costs .before .before))
-    (rw part at (inner .0)) (rw part at (inner .1))
+    tree-taken (tree s) (now (s .args .caps)) (now (s .args .floors)) (now (s .args .out))
+    (accepted-tree (costs .before .before)) (rw part at (inner .0)) (rw part at (inner .1))
 
 pub split-level-spec : {M : Type 1} → statement M
 split-level-spec =

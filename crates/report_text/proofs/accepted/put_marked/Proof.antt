@@ -19,14 +19,17 @@ start c = c .before .before .before .before .before .before .before .before .bef
 few : (c : tie.Start) → length (now (c .args .proposed)) ≤ mostArcs
 few c = few-members _ _ (c .pre .0) (c .pre .1 .0)
 
+part-put-splits-end : tie.Need-part-put-splits-end
+part-put-splits-end c = omega (arith, few (start (c .before)))
+
 part-vertices-end : tie.Need-part-vertices-end
-part-vertices-end c = omega (arith, few (start c))
+part-vertices-end c = omega (arith, few (start (c .before .before)))
 
 part-by-arc-end : tie.Need-part-by-arc-end
-part-by-arc-end c = omega (arith, few (start (c .before)))
+part-by-arc-end c = omega (arith, few (start (c .before .before .before)))
 
 part-shares-end : tie.Need-part-shares-end
-part-shares-end c = omega (arith, few (start (c .before .before)))
+part-shares-end c = omega (arith, few (start (c .before .before .before .before)))
 
 put-tree-requires : tie.Need-put-tree-requires
 put-tree-requires c κs =
@@ -40,17 +43,20 @@ blanks c = zeros _ (few c) ∙ ap (λ (n : ℕ). replicate n 0) (c .pre .1 .0)
 
 put-splits-requires : tie.Need-put-splits-requires
 put-splits-requires c κs =
-    let known = c .before .before .before .before in
+    let known = c .before .before .before .before .before .before in
     let zeros = blanks (start known) in
     let pre = start known .pre in
     let most = few (start known) in
     let first = known .before .before .put-tree .ensures in
-    (pre .0, (pre .1 .0, (zeros, (zeros, (zeros, omega (arith, most, pre .1 .1, first .0 .same-length, first .1))))))
+    let lists = pre .1 .1 in (
+      pre .0,
+      (pre .1 .0, (zeros, (zeros, (zeros, (zeros, omega (arith, most, lists, first .0 .same-length, first .1)))))),
+    )
 
 returns : tie.Need-returns
 returns c =
     let splits = c .before .before .before .before .before in
-    let known = splits .before .before .before .before .before in
+    let known = splits .before .before .before .before .before .before .before in
     put-then (known .before .before .put-tree .ensures .0) (splits .put-splits .ensures)
 
 pub put-marked-spec : {M : Type 1} → statement M
@@ -58,6 +64,9 @@ put-marked-spec =
     tie.close
     (tie.spec
     put-tree-requires
+    (λ c. search needs)
+    (λ c. search needs)
+    part-put-splits-end
     (λ c. search needs)
     (λ c. search needs)
     part-vertices-end

@@ -30,7 +30,7 @@ abbrev listed : tie.After-put-members-arg4 → tie.After-list-members
 listed c = divided c .before .before .before .before
 
 abbrev start : tie.After-put-members-arg4 → tie.Start
-start c = listed c .before .before .before .before .before .before .before .before .before .before
+start c = listed c .before .before .before .before .before .before .before .before .before .before .before
 
 abbrev tree : tie.After-put-members-arg4 → Tree
 tree c = treeOf (now (start c .args .parents)) (now (start c .args .costs)) (now (start c .args .marks))
@@ -39,16 +39,16 @@ put-level-requires : tie.Need-put-level-requires
 put-level-requires c κs =
     let level = c .before .before .before in
     let first = level .before .before .before .before .before .before .before .before in
-    omega (arith, first .before .before .before .before .before .before .before .before .before .before .pre)
+    omega (arith, first .before .before .before .before .before .before .before .before .before .before .before .pre)
 
 put-members-requires : tie.Need-put-members-requires
 put-members-requires c κs =
     let n = memberCount (network (tree c)) in
     let count = start c .pre .1 .0 in
-    let zeros = start c .pre .1 .1 in
+    let zeros = start c .pre .1 .1 .1 in
     let vertices = listed c .list-members .kept .1 .1 .1 .0 ∙ entries n (zeros .0) in
     let by-arc = divided c .split-by-arc .kept .1 .1 .1 .0 ∙ entries n (zeros .1 .0) in
-    let shares = levelled c .split-level .kept .1 .1 .1 .1 .0 ∙ entries n (zeros .1 .1 .0) in
+    let shares = levelled c .split-level .kept .1 .1 .1 .1 .1 .0 ∙ entries n (zeros .1 .1 .0) in
     let level = put c .put-level .ensures in (
       omega (arith, vertices, count),
       (
@@ -62,10 +62,10 @@ returns c =
     let call = c .before .before .before in
     let t = tree call in
     let pre = start call .pre in
-    let zeros = pre .1 .1 in
+    let zeros = pre .1 .1 .1 in
     let level = levelled call .split-level .ensures in
     let vertices = members-listed t (pre .0) _ (entries (memberCount (network t)) (zeros .0)) in
-    split-joined _ _ (pre .1 .0) _ (zeros .1 .0) (zeros .1 .1 .0)
+    split-joined _ _ (pre .1 .0) _ (pre .1 .1 .0) (zeros .1 .0) (zeros .1 .1 .0)
     (put call .put-level .ensures .0)
     (c .before .before .put-members .ensures)
     (listed call .list-members .ensures .1 ∙ vertices)
