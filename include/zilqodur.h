@@ -33,8 +33,8 @@
  *   - nobody else writes to the lists during the call;
  *   - 240,000 bytes of the stack are free for zilqodur_commit, zilqodur_ask and zilqodur_make_state, which take 214,000, 197,000 and
  *     140,000 of them, 190,000 for zilqodur_report, which takes 173,000, 150,000 for zilqodur_split_margin and zilqodur_split_level,
- *     which take 123,000 and 113,000, and 100,000 for the others, of which every one takes at most 40,000. A state is 16,392 bytes,
- *     wherever it is handed over or comes back; those bytes are counted in.
+ *     which take 123,000 and 113,000, and 100,000 for the others, of which zilqodur_job_to_1 takes 43,000 and every other one at most
+ *     40,000. A state is 16,392 bytes, wherever it is handed over or comes back; those bytes are counted in.
  *
  * No function keeps anything between calls, allocates memory or does input or output; calls from several threads are safe. Link with
  * target/staticlib/libcapi.a (x86-64 Linux). */
@@ -78,7 +78,9 @@ enum ZilqodurRefusal {
     ZILQODUR_BRANCH_ARC = 25, /* [arc] */
     ZILQODUR_BRANCH_USERS = 26, /* [arc] */
     ZILQODUR_FLOOR_ABOVE_CAP = 27, /* [lowest such member] */
-    ZILQODUR_FLOORS_ABOVE_NEED = 28 /* [arc] */
+    ZILQODUR_FLOORS_ABOVE_NEED = 28, /* [arc] */
+    ZILQODUR_UNMARKED_DEAD_END = 29, /* [lowest such vertex] */
+    ZILQODUR_FLOOR_ABOVE_ZERO = 30 /* [lowest such member] */
 };
 
 /* What a refusal's number says, as a sentence for a person. The strings are constants; nobody frees them. */
@@ -95,7 +97,7 @@ static inline const char *zilqodur_refusal_text(uint32_t refusal) {
         case ZILQODUR_OUTPUT_LENGTH: return "the output list is not exactly as long as what is written";
         case ZILQODUR_CAPS_SHORT: return "the caps of an arc's users add up to less than its adjusted need";
         case ZILQODUR_JOB_ROOM: return "a list for the job's values has fewer than 1,023 entries";
-        case ZILQODUR_JOB_SIZE: return "the job has fewer than 16 or more than 24,823 bytes";
+        case ZILQODUR_JOB_SIZE: return "the job has fewer than 16 bytes, or more than 24,823 (33,007 in version 2)";
         case ZILQODUR_JOB_SIGNATURE: return "the job's version or closing bytes are wrong";
         case ZILQODUR_JOB_LAYOUT: return "the job's note is longer than 255 bytes, or its parts do not meet and end exactly";
         case ZILQODUR_JOB_FILLER: return "a filler in the job is not zero";
@@ -113,20 +115,25 @@ static inline const char *zilqodur_refusal_text(uint32_t refusal) {
         case ZILQODUR_BRANCH_USERS: return "the arc has fewer than two users";
         case ZILQODUR_FLOOR_ABOVE_CAP: return "a floor is above its cap";
         case ZILQODUR_FLOORS_ABOVE_NEED: return "the adjusted need of an arc from the source is above its need";
+        case ZILQODUR_UNMARKED_DEAD_END: return "a dead end is not marked";
+        case ZILQODUR_FLOOR_ABOVE_ZERO: return "a floor is above 0";
         default: return "no refusal has this number";
     }
 }
 
-/* The greatest number of arcs, and so of members, of a tree: the entries of each list of a state, and those that zilqodur_read_job asks
- * of each of its four lists. */
+/* The greatest number of arcs, and so of members, of a tree: the entries of each list of a state, and those that zilqodur_read_job and
+ * zilqodur_read_job2 ask of each list that they fill. */
 #define ZILQODUR_MOST_ARCS 1023
 
 /* The greatest number of events that are committed one after another on a state that was made: where so many are, or more,
  * zilqodur_commit refuses. */
 #define ZILQODUR_MOST_EVENTS 1000000
 
-/* The number of bytes of the longest job: in `out` of zilqodur_write_job they are room for every job. */
+/* The number of bytes of the longest job of version 1: in `out` of zilqodur_write_job and zilqodur_job_to_1 they are room for every job. */
 #define ZILQODUR_MOST_JOB_BYTES 24823
+
+/* The same of version 2: in `out` of zilqodur_job_to_2 they are room for every job. */
+#define ZILQODUR_MOST_JOB2_BYTES 33007
 
 /* The number of bytes that zilqodur_report asks of its `out`: room for the longest report. */
 #define ZILQODUR_REPORT_ROOM 196608
@@ -251,8 +258,8 @@ typedef struct ZilqodurQuoteAnswer {
 typedef struct ZilqodurJob {
     uint32_t refusal;
     size_t place;
-    size_t arcs;    /* the number of arcs: entries written to `parents` and to `costs` */
-    size_t members; /* the number of members: entries written to `caps` and to `proposals` */
+    size_t arcs;    /* the number of arcs: entries written to `parents`, `costs` and `marks` */
+    size_t members; /* the number of members: entries written to `caps`, `proposals` and `floors` */
     size_t note;    /* the length of the note, which stands at the job's start */
 } ZilqodurJob;
 
@@ -365,8 +372,9 @@ ZilqodurQuoteAnswer zilqodur_ask(ZilqodurState state, ZilqodurEvent event);
  * these functions. Refusals, in this order: 23, 24, then those of zilqodur_ask. */
 ZilqodurStateAnswer zilqodur_commit(ZilqodurState state, ZilqodurQuote quote);
 
-/* Reads a job's bytes into the front of the four lists and keeps their other entries. Each list has at least ZILQODUR_MOST_ARCS entries.
- * A job has four parts, each beginning where the one before it ends. Numbers are little-endian; their widths in bytes stand in brackets.
+/* Reads the bytes of a job of version 1 into the front of the four lists and keeps their other entries. Each list has at least
+ * ZILQODUR_MOST_ARCS entries. A job has four parts, each beginning where the one before it ends. Numbers are little-endian; their widths in
+ * bytes stand in brackets.
  *     note           0 to 255 bytes of any content
  *     arc rows       a row an arc, from arc 1 on: its parent (2), a filler of 0 (2), its cost (4)
  *     member rows    a row a member, from member 0 on: its cap (8), its proposed share (8, two's complement)
@@ -394,9 +402,33 @@ ZilqodurJobLength zilqodur_write_job(const uint8_t *note, size_t note_count, con
                                      const uint32_t *costs, size_t costs_count, const uint64_t *caps, size_t caps_count,
                                      const int64_t *proposals, size_t proposals_count, uint8_t *out, size_t out_count);
 
+/* Reads the bytes of a job of version 2 into the front of the six lists and keeps their other entries. Each list has at least
+ * ZILQODUR_MOST_ARCS entries. A job of version 2 is as zilqodur_read_job tells of version 1, but for
+ *     arc rows       the mark of the vertex that the arc enters (2) stands in the filler's place
+ *     member rows    the member's floor (8) follows its proposed share
+ *     trailer        the version is 2
+ * No function refuses the entries written here by the tree's refusals, 6, 7 or 27. Refusals, in this order: 10 to 13, 16 on all arc rows,
+ * 1, then 3, 4 and 17 arc by arc, 18, 15, 7 on caps, 7 on proposals, 7 on floors, 27. A job that one of the two readers accepts the other
+ * refuses, where its lists have the entries: zilqodur_read_job by 11 or 12, this function by 12. */
+ZilqodurJob zilqodur_read_job2(const uint8_t *bytes, size_t bytes_count, uint16_t *parents, size_t parents_count, uint32_t *costs,
+                               size_t costs_count, uint16_t *marks, size_t marks_count, uint64_t *caps, size_t caps_count,
+                               int64_t *proposals, size_t proposals_count, uint64_t *floors, size_t floors_count);
+
+/* Writes a job of version 1 as one of version 2 to the front of `out` and keeps the other bytes of `out`. Note, parents, costs, caps and
+ * proposals are carried over, every dead end is marked, and every floor is 0. `out` has at least as many bytes as the new job, whose length
+ * is answered: 8 a member more than `bytes`. zilqodur_job_to_1 makes the same bytes of it again. Refusals: those of zilqodur_read_job but
+ * 10, then 20. */
+ZilqodurJobLength zilqodur_job_to_2(const uint8_t *bytes, size_t bytes_count, uint8_t *out, size_t out_count);
+
+/* Writes a job of version 2, in which every dead end is marked and every floor is 0, as one of version 1 to the front of `out` and keeps
+ * the other bytes of `out`. Note, parents, costs, caps and proposals are carried over. `out` has at least as many bytes as the new job,
+ * whose length is answered: 8 a member fewer than `bytes`. zilqodur_job_to_2 makes the same bytes of it again. Refusals: those of
+ * zilqodur_read_job2 but 10, then 29, 30, 20. */
+ZilqodurJobLength zilqodur_job_to_1(const uint8_t *bytes, size_t bytes_count, uint8_t *out, size_t out_count);
+
 /* Writes the report on a job's bytes to the front of `out`, as ASCII text; each line ends in a newline and no zero byte follows the last.
- * The other bytes of `out` keep their content. Nothing is refused: on a job that zilqodur_read_job refuses by 11 to 15, 1, 3, 4 or 7 the
- * report is the line `refused N at PLACE`. Otherwise its lines are
+ * The other bytes of `out` keep their content. Nothing is refused: on a job that zilqodur_read_job refuses by 11 to 15, 1, 3, 4 or 7, as
+ * it does every job of version 2, the report is the line `refused N at PLACE`. Otherwise its lines are
  *     cost C members N                       the whole cost, the number of members
  *     audit total D                          the difference; only where the shares do not add up
  *     audit group A of S: J J J              amount, size and members of the group; only where one is found

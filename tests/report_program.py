@@ -14,12 +14,11 @@ sys.path.insert(0, str(TOP / "crates/test_vectors/script"))
 sys.path.insert(0, str(TOP / "crates/report"))
 
 from by_arc import by_arc_split
-from job import read_job
+from job import FIRST, SECOND, held_job
 from level import level_split
 from make import job as packed
 from networks import T, U, W, broom, chain, comb, random_caps, random_proposal, random_tree, star
 from rules import (
-    MOST_ARCS,
     MOST_CAP,
     MOST_SHARE,
     Refusal,
@@ -29,6 +28,7 @@ from rules import (
     member_vertices,
     whole_cost,
 )
+from writer import job_bytes
 
 
 def audit_lines(tree, proposal):
@@ -43,13 +43,11 @@ def audit_lines(tree, proposal):
 
 def lines(data):
     """The lines of the report on a job."""
-    lists = [[0] * MOST_ARCS for _ in range(4)]
     try:
-        arcs, count, _ = read_job(data, *lists)
+        _, tree, caps, proposal, _ = held_job(data, FIRST)
     except Refusal as refusal:
         return [str(refusal)]
-    tree = all_marked(lists[0][:arcs], lists[1][:arcs])
-    caps, proposal = lists[2][:count], lists[3][:count]
+    count = len(caps)
     found = [f"cost {whole_cost(tree)} members {count}", *audit_lines(tree, proposal)]
     try:
         level = level_split(tree, caps)
@@ -67,8 +65,14 @@ def job_of(tree, caps, proposal, note=b""):
     return packed(note, list(zip(tree.parents, tree.costs)), list(zip(caps, proposal)))
 
 
+def second(data):
+    """A job of version 1 as one of version 2."""
+    return job_bytes(held_job(data, FIRST), SECOND)
+
+
 def jobs():
     yield job_of(T, [100] * 3, [8, 4, 4])
+    yield second(job_of(T, [100] * 3, [8, 4, 4]))
     yield job_of(T, [3, 8, 100], [8, 4, 5], b"note")
     yield job_of(T, [100] * 3, [7, 5, 4])
     yield job_of(T, [100] * 3, [-1, 13, 4])
@@ -82,7 +86,9 @@ def jobs():
         tree = all_marked(shape(1023), [10**9] * 1023)
         count = member_count(tree)
         for share in (-MOST_SHARE, MOST_SHARE):
-            yield job_of(tree, [MOST_CAP] * count, [share] * count, bytes(255))
+            data = job_of(tree, [MOST_CAP] * count, [share] * count, bytes(255))
+            yield data
+            yield second(data)
     dice = random.Random(20261115)
     for arcs in [dice.randint(1, 12) for _ in range(60)]:
         tree = random_tree(dice, arcs)

@@ -2,22 +2,24 @@
 //! compared, or the time of a call taken.
 
 use crate::ffi::{ZilqodurEvent, ZilqodurQuote};
-use crate::job::Job;
 use crate::measure::medians;
 use crate::networks::Network;
-use crate::reference::ARCS;
-use crate::{best, ffi, same};
+use crate::{best, ffi, jobs, same};
 use std::hint::black_box;
 
 #[rustfmt::skip]
-pub const ENTRIES: [&str; 15] = [
+pub const ENTRIES: [&str; 18] = [
     "needs", "total", "group search", "by-arc", "level", "job reader", "dead ends", "cap sums",
     "job length", "job writer", "make state", "ask", "commit", "margin", "level, floors",
+    "job reader, version 2", "job to version 2", "job to version 1",
 ];
 
 pub const LEVEL: usize = 4;
 pub const MARGIN: usize = 13;
 pub const FLOORS: usize = 14;
+pub const READER_2: usize = 15;
+pub const TO_2: usize = 16;
+pub const TO_1: usize = 17;
 
 /// Microseconds of a call.
 #[derive(Clone, Copy)]
@@ -28,63 +30,8 @@ pub struct Times {
     pub best: Option<f64>,
 }
 
-/// The lists that the job reader fills.
-#[derive(Debug, PartialEq)]
-struct Lists {
-    parents: [u16; ARCS],
-    costs: [u32; ARCS],
-    caps: [u64; ARCS],
-    proposals: [i64; ARCS],
-}
-
-const LISTS: Lists = Lists {
-    parents: [7; ARCS],
-    costs: [7; ARCS],
-    caps: [7; ARCS],
-    proposals: [7; ARCS],
-};
-
-type Read = fn(&[u8], &mut [u16], &mut [u32], &mut [u64], &mut [i64]) -> ffi::ZilqodurJob;
-
-impl Lists {
-    fn fill(&mut self, read: Read, bytes: &[u8]) -> ffi::ZilqodurJob {
-        read(
-            bytes,
-            &mut self.parents,
-            &mut self.costs,
-            &mut self.caps,
-            &mut self.proposals,
-        )
-    }
-}
-
-type Length = fn(&[u8], &[u16], &[u32], &[u64], &[i64]) -> ffi::ZilqodurJobLength;
-
-fn length_of(length: Length, job: &Job) -> ffi::ZilqodurJobLength {
-    length(
-        &job.note,
-        &job.parents,
-        &job.costs,
-        &job.caps,
-        &job.proposals,
-    )
-}
-
-type Write = fn(&[u8], &[u16], &[u32], &[u64], &[i64], &mut [u8]) -> ffi::ZilqodurJobLength;
-
-fn write(write: Write, job: &Job, out: &mut [u8]) -> ffi::ZilqodurJobLength {
-    write(
-        &job.note,
-        &job.parents,
-        &job.costs,
-        &job.caps,
-        &job.proposals,
-        out,
-    )
-}
-
 /// A call's answer with the list that it wrote.
-fn written<E: Clone + From<u8>, T>(length: usize, call: impl Fn(&mut [E]) -> T) -> (T, Vec<E>) {
+pub fn written<E: Clone + From<u8>, T>(length: usize, call: impl Fn(&mut [E]) -> T) -> (T, Vec<E>) {
     let mut out = vec![E::from(7); length];
     (call(&mut out), out)
 }
@@ -111,7 +58,7 @@ pub fn compare(n: &Network) {
     );
     compare_levels(n);
     compare_margins(n);
-    compare_jobs(n);
+    jobs::compare(n);
     compare_states(n);
 }
 
@@ -159,21 +106,6 @@ fn compare_margins(n: &Network) {
     }
 }
 
-fn compare_jobs(n: &Network) {
-    let (mut a, mut b) = (LISTS, LISTS);
-    let read = a.fill(ffi::read_job, &n.bytes);
-    assert_eq!(read, b.fill(same::read_job, &n.bytes));
-    assert!(a == b, "the job readers fill other lists");
-    assert_eq!(
-        length_of(ffi::job_length, &n.job),
-        length_of(same::job_length, &n.job)
-    );
-    assert_eq!(
-        written(n.bytes.len(), |out| write(ffi::write_job, &n.job, out)),
-        written(n.bytes.len(), |out| write(same::write_job, &n.job, out)),
-    );
-}
-
 /// A new cost, at most half the old one, of the first member's own arc, before
 /// any event is committed.
 fn cheaper(n: &Network) -> ZilqodurQuote {
@@ -212,13 +144,13 @@ fn compare_states(n: &Network) {
 }
 
 /// Keeps the compiler from leaving out a call whose answer nobody reads.
-fn used<T>(answer: T) {
+pub fn used<T>(answer: T) {
     black_box(answer);
 }
 
 /// The calls of one entry on a network: the engine's, the same algorithm's and,
 /// of the level split, the best one's.
-type Calls<'a> = Vec<Box<dyn FnMut() + 'a>>;
+pub type Calls<'a> = Vec<Box<dyn FnMut() + 'a>>;
 
 fn needs(n: &Network) -> Calls<'_> {
     let (p, c, m) = (&n.parents[..], &n.costs[..], &n.marks[..]);
@@ -276,14 +208,6 @@ fn level_floors(n: &Network) -> Calls<'_> {
     level_with(n, &n.floors)
 }
 
-fn job(n: &Network) -> Calls<'_> {
-    let (mut a, mut b) = (LISTS, LISTS);
-    vec![
-        Box::new(move || used(a.fill(ffi::read_job, black_box(&n.bytes)))),
-        Box::new(move || used(b.fill(same::read_job, black_box(&n.bytes)))),
-    ]
-}
-
 fn dead_ends(n: &Network) -> Calls<'_> {
     let (p, c) = (&n.parents[..], &n.costs[..]);
     let (mut a, mut b) = (vec![0; p.len()], vec![0; p.len()]);
@@ -299,21 +223,6 @@ fn cap_sums(n: &Network) -> Calls<'_> {
     vec![
         Box::new(move || used(ffi::list_cap_sums(black_box(p), c, m, caps, &mut a))),
         Box::new(move || used(same::list_cap_sums(black_box(p), c, m, caps, &mut b))),
-    ]
-}
-
-fn job_length(n: &Network) -> Calls<'_> {
-    vec![
-        Box::new(move || used(length_of(ffi::job_length, black_box(&n.job)))),
-        Box::new(move || used(length_of(same::job_length, black_box(&n.job)))),
-    ]
-}
-
-fn job_writer(n: &Network) -> Calls<'_> {
-    let (mut a, mut b) = (vec![0; n.bytes.len()], vec![0; n.bytes.len()]);
-    vec![
-        Box::new(move || used(write(ffi::write_job, black_box(&n.job), &mut a))),
-        Box::new(move || used(write(same::write_job, black_box(&n.job), &mut b))),
     ]
 }
 
@@ -355,9 +264,10 @@ fn margin(n: &Network) -> Calls<'_> {
 
 /// The calls of each entry, in the order of their names.
 #[rustfmt::skip]
-const CALLS: [fn(&Network) -> Calls<'_>; 15] = [
-    needs, total, search, by_arc, level, job, dead_ends, cap_sums, job_length, job_writer,
-    make_state, ask, commit, margin, level_floors,
+const CALLS: [fn(&Network) -> Calls<'_>; 18] = [
+    needs, total, search, by_arc, level, jobs::reader, dead_ends, cap_sums, jobs::length,
+    jobs::writer, make_state, ask, commit, margin, level_floors, jobs::reader2, jobs::to_2,
+    jobs::to_1,
 ];
 
 /// The times of one entry on each of the networks.

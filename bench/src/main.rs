@@ -16,6 +16,10 @@ mod ffi;
 #[allow(dead_code)]
 #[path = "../../tests/comparison/src/job.rs"]
 mod job;
+#[allow(dead_code)]
+#[path = "../../tests/comparison/src/job2.rs"]
+mod job2;
+mod jobs;
 mod measure;
 mod networks;
 mod page;

@@ -1,6 +1,7 @@
 //! The networks that are measured, and the lists that go with them.
 
 use crate::job::Job;
+use crate::job2::{self, Job2};
 use crate::reference::{dead_ends, Tree, AMOUNT, COST};
 use crate::rng::Rng;
 
@@ -104,8 +105,11 @@ pub struct Network {
     pub branched: Branched,
     /// A job with the same parents and costs, in which every dead end is marked.
     pub job: Job,
-    /// The job's bytes.
+    /// The job's bytes, and its bytes as one of version 2.
     pub bytes: Vec<u8>,
+    pub bytes2: Vec<u8>,
+    /// The bytes of a job of version 2 that has all lists of the network.
+    pub own2: Vec<u8>,
 }
 
 /// How far the caps are from what the by-arc split gives.
@@ -159,7 +163,7 @@ impl Network {
         let caps = caps(rng, kind, &shares, tree.whole());
         let proposal = proposal(rng, &shares);
         let job = job(rng, kind, &parents, &costs);
-        Network {
+        let mut network = Network {
             members: shares.len(),
             users: tree.users.iter().map(Vec::len).sum(),
             no_floors: vec![0; shares.len()],
@@ -168,11 +172,29 @@ impl Network {
             proposal,
             branched: Branched::new(shape, &parents, &costs),
             bytes: job.write(),
+            bytes2: job2::with_dead_ends(job.clone()).write(),
+            own2: Vec::new(),
             job,
             parents,
             costs,
             marks,
-        }
+        };
+        network.own2 = network.own_job().write();
+        network
+    }
+
+    /// The job of version 2 with all lists of the network, and the note of its job.
+    fn own_job(&self) -> Job2 {
+        let rows = Job {
+            note: self.job.note.clone(),
+            parents: self.parents.clone(),
+            fillers: self.marks.clone(),
+            costs: self.costs.clone(),
+            caps: self.caps.clone(),
+            proposals: self.proposal.clone(),
+        };
+        let floors = self.floors.clone();
+        Job2 { rows, floors }
     }
 }
 

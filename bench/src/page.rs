@@ -1,6 +1,6 @@
 //! The tables, as Markdown.
 
-use crate::entries::{Times, ENTRIES, FLOORS, LEVEL, MARGIN};
+use crate::entries::{Times, ENTRIES, FLOORS, LEVEL, MARGIN, READER_2, TO_1, TO_2};
 
 /// What was measured on one network.
 pub struct Row {
@@ -71,6 +71,12 @@ fn print_note(entry: usize) {
         println!("A floor is below the by-arc share by at most a quarter; under `level` all floors are 0. On the star");
         println!("and the chain, where one list alone is in the core, no floor changes a share.\n");
     }
+    if entry == READER_2 {
+        println!("The job has the network's marks, and the floors of `level, floors`.\n");
+    }
+    if entry == TO_1 {
+        println!("The job is the one that `job to version 2` writes.\n");
+    }
 }
 
 /// One entry on all networks.
@@ -104,9 +110,10 @@ pub fn print_growth(rows: &[Row], from: usize, to: usize) {
     );
     print!("| Network | Arcs | needs | total | group search | dead ends | cap sums ");
     print!("| Job bytes | job reader | job length | job writer ");
+    print!("| job reader, version 2 | job to version 2 | job to version 1 ");
     print!("| Sum of users | by-arc | make state | ask | commit ");
     println!("| level | level, best | level, floors | level, floors, best | margin |");
-    println!("|---{}|", "|--:".repeat(20));
+    println!("|---{}|", "|--:".repeat(23));
     let at = |arcs| rows.iter().filter(move |row| row.arcs == arcs);
     for (a, b) in at(from).zip(at(to)) {
         let engine = |entry: usize| b.times[entry].engine / a.times[entry].engine;
@@ -118,6 +125,8 @@ pub fn print_growth(rows: &[Row], from: usize, to: usize) {
         print!("| {:.1} | {:.1} ", engine(6), engine(7));
         print!("| {:.1} | {:.1} ", factor(a.job, b.job), engine(5));
         print!("| {:.1} | {:.1} ", engine(8), engine(9));
+        print!("| {:.1} ", engine(READER_2));
+        print!("| {:.1} | {:.1} ", engine(TO_2), engine(TO_1));
         print!("| {:.1} | {:.1} ", factor(a.users, b.users), engine(3));
         print!("| {:.1} | {:.1} ", engine(10), engine(11));
         print!("| {:.1} ", engine(12));

@@ -12,7 +12,8 @@ sys.path.insert(0, str(Path(__file__).resolve().parent / "script"))
 
 from rules import Tree
 from entries import answer, question
-from stated import STATED, T_BYTES
+from stated import STATED
+from stated_jobs import T_BYTES
 from trees import group_bits, large_trees, limits, random_trees, refusal_order, small_networks
 from proposals import (
     deep_proposals,
@@ -73,29 +74,7 @@ from margins import (
     spare_plots,
 )
 from pruned import check_pruned
-from jobs import (
-    form_order,
-    full_jobs,
-    gaps,
-    job_lengths,
-    job_notes,
-    job_signature,
-    job_values,
-    lent_lengths,
-    many_arcs,
-    offsets,
-    random_jobs,
-    value_order,
-)
-from writes import (
-    large_writes,
-    output_lengths,
-    random_writes,
-    small_writes,
-    write_limits,
-    write_notes,
-    write_order,
-)
+from job_parts import JOB_PARTS
 from events import (
     far_vertices,
     made_states,
@@ -191,25 +170,7 @@ PARTS = [
     large_margins,
     margin_refusals,
     random_margins,
-    job_notes,
-    full_jobs,
-    many_arcs,
-    job_lengths,
-    job_signature,
-    offsets,
-    gaps,
-    form_order,
-    value_order,
-    job_values,
-    lent_lengths,
-    random_jobs,
-    small_writes,
-    write_notes,
-    output_lengths,
-    write_limits,
-    large_writes,
-    write_order,
-    random_writes,
+    *JOB_PARTS,
     made_states,
     refused_makings,
     single_events,
@@ -239,7 +200,7 @@ PARTS = [
 ]
 
 # the program's room for a line
-MOST_LINE = 1 << 16
+MOST_LINE = 70_000
 
 
 def write(path, lines):
@@ -265,7 +226,8 @@ def main(folder):
     write(folder / "stdout", answers.values())
     longest = max(map(len, answers))
     assert longest <= MOST_LINE, longest
-    print(f"{len(answers)} cases, {size} bytes, {longest} in the longest line")
+    count = sum(1 + lines.count("\n") for lines in answers.values())
+    print(f"{count} cases, {size} bytes, {longest} in the longest line")
 
 
 if __name__ == "__main__":

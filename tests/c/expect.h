@@ -40,5 +40,6 @@ void try_lists(void);
 void try_levels(void);
 void try_states(void);
 void try_jobs(const char *path);
+void try_jobs2(void);
 
 #endif

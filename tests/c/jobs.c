@@ -1,75 +1,8 @@
-/* Jobs that are read and written, and the report on a job. */
-#include "expect.h"
+/* Jobs of version 1 that are read and written, and the report on a job. */
+#include "sample.h"
 
 #include <stdio.h>
 #include <string.h>
-
-#define JOB_BYTES 96
-#define MOST_NOTE 255
-
-static const uint64_t sample_caps[MEMBERS] = {100, 100, 100};
-
-/* The lists of the sample job: T with caps 100 and the proposal 8 4 4. */
-#define SAMPLE_ARCS parents, ARCS, costs, ARCS
-#define SAMPLE_CAPS sample_caps, MEMBERS
-#define SAMPLE_PROPOSAL sample_proposal, MEMBERS
-#define SAMPLE SAMPLE_ARCS, SAMPLE_CAPS, SAMPLE_PROPOSAL
-
-static int is_job(ZilqodurJob found, uint32_t refusal, size_t place, size_t arcs, size_t members, size_t note) {
-    return IS(found.refusal, refusal) && IS(found.place, place) && IS(found.arcs, arcs) && IS(found.members, members) &&
-           IS(found.note, note);
-}
-
-static int is_job_length(ZilqodurJobLength found, uint32_t refusal, size_t place, size_t length) {
-    return IS(found.refusal, refusal) && IS(found.place, place) && IS(found.length, length);
-}
-
-/* Two fields of a report are 0 in every one: where they stand tells them apart. */
-static int is_report(ZilqodurReport found, uint32_t refusal, size_t place, size_t length) {
-    return IS(found.refusal, refusal) && IS(found.place, place) && IS(found.length, length) && offsetof(ZilqodurReport, refusal) == 0 &&
-           offsetof(ZilqodurReport, place) == 8;
-}
-
-static void put(uint8_t *at, uint64_t number, int width) {
-    int i;
-    for (i = 0; i < width; i++) {
-        at[i] = (uint8_t)(number >> (8 * i));
-    }
-}
-
-/* One byte more than a note may have, no two of them the same. */
-static const uint8_t *note(void) {
-    static uint8_t bytes[MOST_NOTE + 1];
-    size_t i;
-    for (i = 0; i < sizeof bytes; i++) {
-        bytes[i] = (uint8_t)(i + 1);
-    }
-    return bytes;
-}
-
-/* The sample job after so many bytes of the note; answers the number of bytes. */
-static size_t put_job(uint8_t *job, size_t note_count) {
-    uint8_t *rows = job + note_count, *trailer = rows + 8 * ARCS + 16 * MEMBERS;
-    size_t i;
-    memset(job, 0, note_count + JOB_BYTES);
-    memcpy(job, note(), note_count);
-    for (i = 0; i < ARCS; i++) {
-        put(rows + 8 * i, parents[i], 2);
-        put(rows + 8 * i + 4, costs[i], 4);
-    }
-    for (i = 0; i < MEMBERS; i++) {
-        put(rows + 8 * ARCS + 16 * i, sample_caps[i], 8);
-        put(rows + 8 * ARCS + 16 * i + 8, (uint64_t)sample_proposal[i], 8);
-    }
-    put(trailer, note_count, 4);
-    put(trailer + 4, note_count + 8 * ARCS, 4);
-    put(trailer + 8, ARCS, 2);
-    put(trailer + 10, MEMBERS, 2);
-    put(trailer + 12, 1, 2);
-    trailer[14] = 0x54;
-    trailer[15] = 0x4A;
-    return note_count + JOB_BYTES;
-}
 
 static uint16_t job_parents[ZILQODUR_MOST_ARCS];
 static uint32_t job_costs[ZILQODUR_MOST_ARCS];
@@ -112,30 +45,17 @@ static void wrong_jobs(void) {
     EXPECT(is_job(read_job(job, size, ZILQODUR_MOST_ARCS), ZILQODUR_JOB_MEMBERS, 0, 0, 0, 0));
 }
 
-static uint8_t written[ZILQODUR_MOST_JOB_BYTES + 1];
-
-/* From so many bytes on the output is as it was before the call. */
-static int kept_from(size_t from) {
-    size_t i;
-    for (i = from; i < sizeof written; i++) {
-        if (written[i] != '#') {
-            return 0;
-        }
-    }
-    return 1;
-}
-
 /* The sample job after so many bytes of the note: the output a byte short, exactly as long as the job, and longer. */
 static void written_job(size_t note_count) {
     uint8_t job[MOST_NOTE + JOB_BYTES];
     size_t size = put_job(job, note_count);
-    memset(written, '#', sizeof written);
+    memset(written, UNWRITTEN, sizeof written);
     EXPECT(is_job_length(zilqodur_job_length(note(), note_count, SAMPLE), ZILQODUR_NO_REFUSAL, 0, size));
     EXPECT(is_job_length(zilqodur_write_job(note(), note_count, SAMPLE, written, size - 1), ZILQODUR_JOB_SPACE, 0, 0));
     EXPECT(kept_from(0));
     EXPECT(is_job_length(zilqodur_write_job(note(), note_count, SAMPLE, written, size), ZILQODUR_NO_REFUSAL, 0, size));
     EXPECT(memcmp(written, job, size) == 0 && kept_from(size));
-    memset(written, '#', size);
+    memset(written, UNWRITTEN, size);
     EXPECT(is_job_length(zilqodur_write_job(note(), note_count, SAMPLE, written, sizeof written), ZILQODUR_NO_REFUSAL, 0, size));
     EXPECT(memcmp(written, job, size) == 0 && kept_from(size));
 }
@@ -151,7 +71,7 @@ static void unwritten_jobs(void) {
     static const uint64_t high[MEMBERS] = {100, 2000000000001, 100};
     static const int64_t low[MEMBERS] = {8, -2000000000001, 4}, above[MEMBERS] = {8, 4, 2000000000001};
     const uint8_t *n = note();
-    memset(written, '#', sizeof written);
+    memset(written, UNWRITTEN, sizeof written);
     EXPECT_NO_JOB(ZILQODUR_ARC_COUNT, 0, n, 0, parents, 0, costs, ARCS, SAMPLE_CAPS, SAMPLE_PROPOSAL);
     EXPECT_NO_JOB(ZILQODUR_TREE_LENGTHS, 0, n, 0, wrong_parents, ARCS, costs, ARCS - 1, SAMPLE_CAPS, SAMPLE_PROPOSAL);
     EXPECT_NO_JOB(ZILQODUR_PARENT, 2, n, 0, wrong_parents, ARCS, dear, ARCS, SAMPLE_CAPS, SAMPLE_PROPOSAL);
@@ -180,7 +100,7 @@ static void longest_job(void) {
         caps[i] = 2000000000000;
         proposals[i] = i % 2 == 0 ? -2000000000000 : 2000000000000;
     }
-    memset(written, '#', sizeof written);
+    memset(written, UNWRITTEN, sizeof written);
     EXPECT(is_job_length(zilqodur_write_job(note(), MOST_NOTE, star, m, dear, m, caps, m, proposals, m, written, sizeof written),
                          ZILQODUR_NO_REFUSAL, 0, size));
     EXPECT(size == 24823 && memcmp(written, note(), MOST_NOTE) == 0 && kept_from(size));
@@ -204,16 +124,12 @@ static void sample_file(const char *path) {
 
 /* The report on the sample job with this proposal. */
 static void report_of(int64_t a, int64_t b, int64_t c, const char *text) {
-    static uint8_t out[ZILQODUR_REPORT_ROOM];
-    uint8_t job[JOB_BYTES], *rows = job + 8 * ARCS;
-    size_t size = put_job(job, 0), length = strlen(text);
-    put(rows + 8, (uint64_t)a, 8);
-    put(rows + 16 + 8, (uint64_t)b, 8);
-    put(rows + 32 + 8, (uint64_t)c, 8);
-    EXPECT(sizeof out == 196608);
-    memset(out, '#', sizeof out);
-    EXPECT(is_report(zilqodur_report(job, size, out), ZILQODUR_NO_REFUSAL, 0, length));
-    EXPECT(memcmp(out, text, length) == 0 && out[length] == '#' && out[sizeof out - 1] == '#');
+    uint8_t job[JOB_BYTES];
+    size_t size = put_job(job, 0);
+    put(job + PROPOSAL(0), (uint64_t)a, 8);
+    put(job + PROPOSAL(1), (uint64_t)b, 8);
+    put(job + PROPOSAL(2), (uint64_t)c, 8);
+    EXPECT(is_reported(job, size, text));
 }
 
 /* Each of the lines that the audit may have. */

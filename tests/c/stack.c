@@ -1,5 +1,5 @@
 /* Calls every function of zilqodur.h on a stack that has no more bytes free than the header names, on trees of 1,023
- * arcs and on their jobs, of which the star's is the longest that is read. Each call is made in a child process, which
+ * arcs and on their jobs, of which the star's are the longest that are read. Each call is made in a child process, which
  * ends by a signal where the function takes more. Exit status 1, and a line for each such call. */
 #include "zilqodur.h"
 
@@ -22,6 +22,7 @@
 #define REPORT 173000
 #define LEVEL 113000
 #define MARGIN 123000
+#define TO_1 43000
 #define OTHER 40000
 
 /* The bytes below the stack, which may not be touched, are more than a frame has, so that none reaches past them. */
@@ -34,8 +35,8 @@ static uint64_t caps[ARCS], floors[ARCS], out[ARCS], group[16];
 static int64_t proposal[ARCS];
 static ZilqodurState state;
 static const ZilqodurQuote cheaper = {{1, ZILQODUR_NEW_COST, 999999999}, 0};
-static uint8_t note[NOTE], job[ZILQODUR_MOST_JOB_BYTES], text[ZILQODUR_REPORT_ROOM];
-static size_t members, branch_members, job_bytes;
+static uint8_t note[NOTE], job[ZILQODUR_MOST_JOB_BYTES], job2[ZILQODUR_MOST_JOB2_BYTES], text[ZILQODUR_REPORT_ROOM];
+static size_t members, branch_members, job_bytes, job2_bytes;
 
 static uint32_t check_tree(void) {
     return zilqodur_check_tree(parents, ARCS, costs, ARCS, marks, ARCS).refusal;
@@ -121,6 +122,22 @@ static uint32_t write_job(void) {
     return written.refusal;
 }
 
+static uint32_t read_job2(void) {
+    return zilqodur_read_job2(job2, job2_bytes, parents, ARCS, costs, ARCS, marks, ARCS, caps, ARCS, proposal, ARCS, floors,
+                              ARCS)
+        .refusal;
+}
+
+static uint32_t job_to_2(void) {
+    ZilqodurJobLength written = zilqodur_job_to_2(job, job_bytes, job2, sizeof job2);
+    job2_bytes = written.length;
+    return written.refusal;
+}
+
+static uint32_t job_to_1(void) {
+    return zilqodur_job_to_1(job2, job2_bytes, job, sizeof job).refusal;
+}
+
 /* A refused job has a short report. */
 static uint32_t report(void) {
     return zilqodur_report(job, job_bytes, text).length < 100;
@@ -151,6 +168,9 @@ static const struct {
     {"zilqodur_read_job", read_job, OTHER},
     {"zilqodur_job_length", job_length, OTHER},
     {"zilqodur_write_job", write_job, OTHER},
+    {"zilqodur_read_job2", read_job2, OTHER},
+    {"zilqodur_job_to_2", job_to_2, OTHER},
+    {"zilqodur_job_to_1", job_to_1, TO_1},
     {"zilqodur_report", report, REPORT},
 };
 
@@ -230,6 +250,7 @@ static void write_lists(void) {
     write_branch();
     state = zilqodur_make_state(parents, ARCS, costs, ARCS, marks, ARCS).state;
     write_job();
+    job_to_2();
 }
 
 /* How many functions failed on the tree. */

@@ -30,7 +30,7 @@ pub const CAPS_SHORT: u32 = 9;
 // A list for the job's values has fewer than 1,023 entries.
 pub const JOB_ROOM: u32 = 10;
 
-// The job has fewer than 16 or more than 24,823 bytes.
+// The job has fewer than 16 bytes, or more than 24,823 (33,007 in version 2).
 pub const JOB_SIZE: u32 = 11;
 
 // The job's version or closing bytes are wrong.
@@ -83,3 +83,9 @@ pub const FLOOR_ABOVE_CAP: u32 = 27;
 
 // The adjusted need of an arc from the source is above its need.
 pub const FLOORS_ABOVE_NEED: u32 = 28;
+
+// A dead end is not marked.
+pub const UNMARKED_DEAD_END: u32 = 29;
+
+// A floor is above 0.
+pub const FLOOR_ABOVE_ZERO: u32 = 30;

@@ -27,3 +27,4 @@ pub mod MadeStates
 pub mod EventLaws
 mod Committed
 pub mod QuoteLaws
+pub mod OneByOne

@@ -1,3 +1,5 @@
 mod Kept
+mod JobKept
 mod ReadBack
+mod JobBack
 mod LevelBack

@@ -27,19 +27,14 @@ use Rattle.events.specs.Outcomes.{stateOf}
 use Rattle.events.specs.declared.make.State.{State}
 use Rattle.capi.specs.declared.states.ZilqodurStateAnswer.{ZilqodurStateAnswer}
 use Rattle.capi.specs.declared.quotes.ZilqodurQuoteAnswer.{ZilqodurQuoteAnswer}
-use Rattle.job_bytes.specs.JobBytes.{Contents, jobBytes}
-use Rattle.job.specs.Reader.{Lent, readCheck, jobAnswer}
-use Rattle.job.specs.Writer.{contentsCheck, lengthAnswer, writeCheck, writeAnswer}
 use Rattle.capi.specs.Structs.{encodeMembers, decodeMembers, encodeNeeds, decodeNeeds, encodeGroup, decodeGroup}
 use Rattle.capi.specs.Structs.{encodeTotal, decodeTotal, encodeSearch, decodeSearch, VerdictUnlessRefused}
 use Rattle.capi.specs.Structs.{encodeMargin, decodeMargin}
-use Rattle.capi.specs.Structs.{encodeCapSums, decodeCapSums, encodeJob, decodeJob}
-use Rattle.capi.specs.Structs.{encodeJobLength, decodeJobLength}
+use Rattle.capi.specs.Structs.{encodeCapSums, decodeCapSums}
 use Rattle.capi.specs.Structs.{encodeState, decodeState, encodeEvent, eventBy, encodeQuote, quoteBy}
 use Rattle.capi.specs.Structs.{encodeAsked, decodeAsked}
 use Rattle.capi.proofs.Kept.{Kept, then-kept, tree-kept, plain-kept, bits-kept, list-kept, output-kept}
-use Rattle.capi.proofs.Kept.{margin-kept, apply-kept, commit-kept, read-kept, contents-kept}
-use Rattle.capi.proofs.Kept.{write-kept}
+use Rattle.capi.proofs.Kept.{margin-kept, apply-kept, commit-kept}
 
 -- s is the struct of an answer that can be read back: what it stands for, and that its other fields are 0
 pub stands-for : {A S : Type 0} (encode : A → S) (decode : S → A) {a found : A} {s : S} → s ≡ encode found → found ≡ a
@@ -67,7 +62,7 @@ not-zero e = let z : _≡_ {A = ℕ} 0 1 = cc in omega arith
 module _ {A S : Type 0} (encode : Answer A → S) (decode : S → Answer A)
     (values : (x : A) → decode (encode (value x)) ≡ value x)
     (refusals : (n place : ℕ) → decode (encode (refusal (suc n) place)) ≡ refusal (suc n) place) where
-  answer-back : (c : Check) (x : A) → Kept c → decode (encode (answer c x)) ≡ answer c x
+  pub answer-back : (c : Check) (x : A) → Kept c → decode (encode (answer c x)) ≡ answer c x
   answer-back accepted x kept = values x
   answer-back (refused zero place) x kept = absurd (not-zero kept)
   answer-back (refused (suc n) place) x kept = refusals n place
@@ -266,20 +261,3 @@ module _ (shares : List ℕ) where
         stands .0,
         (stands .1 ∙ ap (encodeAsked (decodeAsked r)) (sym beside), beside ∙ holds),
       )
-
-pub job-back : (bytes : List ℕ) (l : Lent) → decodeJob (encodeJob (jobAnswer bytes l)) ≡ jobAnswer bytes l
-unfolding jobAnswer
-job-back bytes l =
-    answer-back encodeJob decodeJob (λ x. refl) (λ n place. refl) (readCheck bytes l) _ (read-kept bytes l)
-
-length-back : (c : Check) (n : ℕ) → Kept c → decodeJobLength (encodeJobLength (answer c n)) ≡ answer c n
-length-back = answer-back encodeJobLength decodeJobLength (λ x. refl) (λ n place. refl)
-
-pub job-length-back : (c : Contents) → decodeJobLength (encodeJobLength (lengthAnswer c)) ≡ lengthAnswer c
-unfolding lengthAnswer
-job-length-back c = length-back (contentsCheck c) (length (jobBytes c)) (contents-kept c)
-
-pub job-written-back : (c : Contents) (out : List ℕ)
-    → decodeJobLength (encodeJobLength (writeAnswer c out)) ≡ writeAnswer c out
-unfolding writeAnswer
-job-written-back c out = length-back (writeCheck c out) (length (jobBytes c)) (write-kept c out)

@@ -1,8 +1,9 @@
-// The job writer.
+// The job writer, and the conversions between the versions.
 use job::JobLength;
 ghost use mathlib.Core.Path.{_≡_};
 ghost use Rattle.job_bytes.specs.JobBytes.{contents};
 ghost use Rattle.job.specs.Writer.{lengthAnswer, writeAnswer, writeOutput, jobLengthOf};
+ghost use Rattle.job2.specs.Converter.{to2Answer, to2Output, to1Answer, to1Output};
 ghost use Rattle.capi.specs.Structs.{encodeJobLength, decodeJobLength};
 
 #[repr(C)]
@@ -63,4 +64,22 @@ pub extern "C" fn zilqodur_write_job(
         (now (proposals .entry))) (now (out .entry)) ⌝ }
 {
     encode(job::write_job(note, parents, costs, caps, proposals, out))
+}
+
+#[no_mangle]
+pub extern "C" fn zilqodur_job_to_2(bytes: &[u8], out: &mut [u8]) -> ZilqodurJobLength
+    ensures { λ r. ⌜ decodeJobLength r ≡ to2Answer (now (bytes .entry)) (now (out .entry)) ⌝ }
+    ensures { λ r. ⌜ r ≡ encodeJobLength (decodeJobLength r) ⌝ }
+    ensures { λ _. ⌜ now (out .exit) ≡ to2Output (now (bytes .entry)) (now (out .entry)) ⌝ }
+{
+    encode(job2::job_to_2(bytes, out))
+}
+
+#[no_mangle]
+pub extern "C" fn zilqodur_job_to_1(bytes: &[u8], out: &mut [u8]) -> ZilqodurJobLength
+    ensures { λ r. ⌜ decodeJobLength r ≡ to1Answer (now (bytes .entry)) (now (out .entry)) ⌝ }
+    ensures { λ r. ⌜ r ≡ encodeJobLength (decodeJobLength r) ⌝ }
+    ensures { λ _. ⌜ now (out .exit) ≡ to1Output (now (bytes .entry)) (now (out .entry)) ⌝ }
+{
+    encode(job2::job_to_1(bytes, out))
 }

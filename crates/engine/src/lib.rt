@@ -17,6 +17,7 @@ pub use by_arc_split::split_by_arc;
 pub use cap_sums::CapSumsFound;
 pub use cap_sums::list_cap_sums;
 pub use checks::check_caps;
+pub use checks::check_limits;
 pub use checks::check_proposal;
 pub use checks::check_tree;
 pub use group::GroupCost;

@@ -7,33 +7,35 @@ use Rattle.basics.proofs.Lists.{entries-front}
 use Rattle.answer_forms.specs.Answer.{accepted}
 use Rattle.answer_forms.proofs.Composed.{second-accepted, answered}
 use Rattle.job_bytes.specs.Numbers.{Bytes}
-use Rattle.job_bytes.specs.JobBytes.{jobBytes}
+use Rattle.job_bytes.specs.JobBytes.{jobBytes, plainJob}
 use Rattle.job_bytes.specs.Format.{arcOffset, memberOffset, jobArcs, jobMembers, jobContents}
 use Rattle.job_bytes.specs.Format.{parentAt, costAt, capAt, proposalAt, jobParents, jobCosts, jobCaps, jobProposals}
-use Rattle.job_form.proofs.WrittenAgain.{written-again}
-use Rattle.job.specs.JobCheck.{jobCheck}
+use Rattle.job_bytes.specs.declared.version.Version.the-variants.{One}
+use Rattle.job_checks.proofs.Plain.{held-plain}
+use Rattle.job_checks.specs.JobCheck.{marksOf, jobCheck}
 use Rattle.job.specs.Reader.{Lent, lent, roomIn, readCheck, jobValue, jobAnswer, jobLists}
 use Rattle.job.specs.Laws.{Usable, ReadUsable, Determined}
-use Rattle.job.proofs.Accepted.{job-accepted}
+use Rattle.job_checks.proofs.Accepted.{job-accepted, made as held-made}
 
 -- the lists after a job was read
 pub filled : (bytes : List ℕ) (l : Lent) → readCheck bytes l ≡ accepted
     → jobLists bytes l
     ≡ lent (jobParents bytes ++ drop (jobArcs bytes) (l .parents)) (jobCosts bytes ++ drop (jobArcs bytes) (l .costs))
-    (jobCaps bytes ++ drop (jobMembers bytes) (l .caps)) (jobProposals bytes ++ drop (jobMembers bytes) (l .proposals))
+    (jobCaps One bytes ++ drop (jobMembers bytes) (l .caps))
+    (jobProposals One bytes ++ drop (jobMembers bytes) (l .proposals))
 unfolding jobLists
 filled bytes l e = rw e
 
 usable : (bytes : List ℕ) (l : Lent) → readCheck bytes l ≡ accepted → Usable (jobValue bytes) (jobLists bytes l)
-unfolding readCheck
+unfolding readCheck marksOf
 usable bytes l e =
-    let ok = job-accepted bytes (second-accepted (roomIn l) (jobCheck bytes) e) in
+    let ok = job-accepted One bytes (second-accepted (roomIn l) (jobCheck One bytes) e) in
     let m = jobArcs bytes in
     let n = jobMembers bytes in
     let ps = entries-front (parentAt bytes (arcOffset bytes)) m (drop m (l .parents)) in
     let cs = entries-front (costAt bytes (arcOffset bytes)) m (drop m (l .costs)) in
-    let ks = entries-front (capAt bytes (memberOffset bytes)) n (drop n (l .caps)) in
-    let ss = entries-front (proposalAt bytes (memberOffset bytes)) n (drop n (l .proposals)) in
+    let ks = entries-front (capAt One bytes (memberOffset bytes)) n (drop n (l .caps)) in
+    let ss = entries-front (proposalAt One bytes (memberOffset bytes)) n (drop n (l .proposals)) in
     rw (filled bytes l e)
     (record {
       tree = rw (ps, cs) (ok .tree);
@@ -48,9 +50,9 @@ read-usable bytes l v e =
     let read = answered (readCheck bytes l) (jobValue bytes) v e in
     rw (read .1) (usable bytes l (read .0))
 
--- a job that was read is made of what it holds
-pub made : (bytes : List ℕ) → Bytes bytes → jobCheck bytes ≡ accepted → jobBytes (jobContents bytes) ≡ bytes
-made bytes b e = let ok = job-accepted bytes e in written-again bytes b (ok .form) (ok .fillers)
+-- a job that was read is made of its contents
+pub made : (bytes : List ℕ) → Bytes bytes → jobCheck One bytes ≡ accepted → plainJob (jobContents One bytes) ≡ bytes
+made bytes b e = ap (jobBytes One) (sym (held-plain bytes e)) ∙ held-made One bytes b e
 
 pub determined : Determined
-determined a b as-bytes bs-bytes ea eb same = sym (made a as-bytes ea) ∙ ap jobBytes same ∙ made b bs-bytes eb
+determined a b as-bytes bs-bytes ea eb same = sym (made a as-bytes ea) ∙ ap plainJob same ∙ made b bs-bytes eb

@@ -1,6 +1,4 @@
 pub mod OneToOne
-mod Counted
-mod Accepted
 mod Writable
 mod WriterAnswered
 mod Answered

@@ -5,10 +5,11 @@ use Rattle.game.specs.Tree.{hasChild, deadEnds}
 use Rattle.answers.specs.Checks.{oneByOne, treeCheck, plainCheck, rangeCheck}
 use Rattle.numbers.specs.Signed.{signed64, bits64}
 use Rattle.job_bytes.specs.Numbers.{littleEndian, inBytes}
+use Rattle.job_bytes.specs.Versions.{versionNumber, floorWidth}
 use Rattle.job_bytes.specs.JobBytes.{arcRow, memberRow, rows, trailer, jobBytes}
 use Rattle.job_bytes.specs.Format.{arcOffset, memberOffset, jobArcs, jobMembers, version}
-use Rattle.job_form.specs.Form.{formCheck, fillersFrom}
-use Rattle.job.specs.JobCheck.{sharesCheck, valuesCheck, jobCheck}
+use Rattle.job_form.specs.Form.{mostBytes, formCheck, fillerCheck, fillersFrom}
+use Rattle.job_checks.specs.JobCheck.{roomCheck, marksOf, sharesCheck, valuesCheck, jobCheck}
 use Rattle.job.specs.Reader.{readCheck, jobAnswer, jobLists}
 use Rattle.job.specs.Writer.{contentsCheck, lengthAnswer, writeCheck, writeAnswer, writeOutput}
 use Rattle.job.specs.Table.{JobTable}
@@ -17,7 +18,8 @@ pub table : JobTable
 unfolding hasChild deadEnds oneByOne treeCheck rangeCheck littleEndian signed64 bits64 inBytes entries
     arcRow memberRow trailer arcOffset memberOffset
     jobArcs jobMembers version formCheck fillersFrom sharesCheck valuesCheck jobCheck readCheck jobAnswer jobLists
-    plainCheck rows jobBytes contentsCheck lengthAnswer writeCheck writeAnswer writeOutput
+    plainCheck rows jobBytes versionNumber floorWidth mostBytes fillerCheck marksOf roomCheck
+    contentsCheck lengthAnswer writeCheck writeAnswer writeOutput
 table =
     record {
       T-size = refl;

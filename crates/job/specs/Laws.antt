@@ -10,7 +10,8 @@ use Rattle.answers.specs.Checks.{treeCheck, proposalCheck}
 use Rattle.answers.specs.Level.{capsCheck}
 use Rattle.job_bytes.specs.Numbers.{Bytes}
 use Rattle.job_bytes.specs.Format.{jobContents}
-use Rattle.job.specs.JobCheck.{jobCheck}
+use Rattle.job_bytes.specs.declared.version.Version.the-variants.{One}
+use Rattle.job_checks.specs.JobCheck.{jobCheck}
 use Rattle.job.specs.Reader.{Lent, JobValue, jobAnswer, jobLists}
 
 -- the tree in the front of the lists, with every dead end marked
@@ -30,5 +31,5 @@ ReadUsable = (bytes : List ℕ) (l : Lent) (v : JobValue) → jobAnswer bytes l 
 
 -- two accepted jobs with the same note and the same values have the same bytes
 abbrev pub Determined : Type 0
-Determined = (a b : List ℕ) → Bytes a → Bytes b → jobCheck a ≡ accepted → jobCheck b ≡ accepted
-    → jobContents a ≡ jobContents b → a ≡ b
+Determined = (a b : List ℕ) → Bytes a → Bytes b → jobCheck One a ≡ accepted → jobCheck One b ≡ accepted
+    → jobContents One a ≡ jobContents One b → a ≡ b

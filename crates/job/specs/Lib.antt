@@ -1,7 +1,5 @@
-pub mod JobCheck
 pub mod Reader
 pub mod Writer
 pub mod Laws
 pub mod WriterLaws
 pub mod Table
-pub mod Inner

@@ -1,14 +1,12 @@
 -- What the reader answers, and the lent lists afterwards.
 use Prim.Native.Nat.{ℕ}
-use mathlib.Core.Bool.{_||_}
-use mathlib.Core.List.{List, _++_}
+use mathlib.Core.List.{List, [], _∷_, _++_}
 use lib.ListN.{length, drop}
 use lib.IntN.{ℤ}
-use lib.Dec.{ltb}
-use Rattle.answer_forms.specs.Answer.{Check, Answer, value, refusal, fault, _then_, answer, written}
-use Rattle.limits.specs.Limits.{mostArcs}
+use Rattle.answer_forms.specs.Answer.{Check, Answer, value, refusal, _then_, answer, written}
 use Rattle.job_bytes.specs.Format.{arcOffset, jobArcs, jobMembers, jobParents, jobCosts, jobCaps, jobProposals}
-use Rattle.job.specs.JobCheck.{jobCheck}
+use Rattle.job_bytes.specs.declared.version.Version.the-variants.{One}
+use Rattle.job_checks.specs.JobCheck.{roomCheck, jobCheck}
 use Rattle.job.specs.declared.JobRead.{JobRead}
 use Rattle.job.specs.declared.JobRead.the-variants.{Read, Refused}
 
@@ -22,18 +20,14 @@ pub record Lent : Type 0 where
 abbrev pub lent : List ℕ → List ℕ → List ℕ → List ℤ → Lent
 lent parents costs caps proposals = record { parents = parents; costs = costs; caps = caps; proposals = proposals }
 
--- 10: a list has fewer than 1,023 entries
-abbrev pub roomCheck : ℕ → ℕ → ℕ → ℕ → Check
-roomCheck parents costs caps proposals =
-    fault (ltb parents mostArcs || (ltb costs mostArcs || (ltb caps mostArcs || ltb proposals mostArcs))) 10 0
-
--- the same of the lent lists
+-- 10
 abbrev pub roomIn : Lent → Check
-roomIn l = roomCheck (length (l .parents)) (length (l .costs)) (length (l .caps)) (length (l .proposals))
+roomIn l =
+    roomCheck (length (l .parents) ∷ length (l .costs) ∷ length (l .caps) ∷ length (l .proposals) ∷ [])
 
 -- 10, then the checks on the bytes
 unfoldable pub readCheck : List ℕ → Lent → Check
-readCheck bytes l = roomIn l then jobCheck bytes
+readCheck bytes l = roomIn l then jobCheck One bytes
 
 -- the number of arcs and of members, and the length of the note
 pub record JobValue : Type 0 where
@@ -53,9 +47,9 @@ jobLists bytes l =
     record {
       parents = written (readCheck bytes l) (l .parents) (jobParents bytes ++ drop (jobArcs bytes) (l .parents));
       costs = written (readCheck bytes l) (l .costs) (jobCosts bytes ++ drop (jobArcs bytes) (l .costs));
-      caps = written (readCheck bytes l) (l .caps) (jobCaps bytes ++ drop (jobMembers bytes) (l .caps));
+      caps = written (readCheck bytes l) (l .caps) (jobCaps One bytes ++ drop (jobMembers bytes) (l .caps));
       proposals =
-          written (readCheck bytes l) (l .proposals) (jobProposals bytes ++ drop (jobMembers bytes) (l .proposals));
+          written (readCheck bytes l) (l .proposals) (jobProposals One bytes ++ drop (jobMembers bytes) (l .proposals));
     }
 
 -- what each case of JobRead stands for

@@ -6,7 +6,8 @@ use lib.ListN.{length, take, replicate}
 use lib.IntN.{ℤ, pos, negsuc}
 use Rattle.answer_forms.specs.Answer.{value, refusal, refused}
 use Rattle.job_bytes.specs.JobBytes.{Contents, contents, arcRow, memberRow, trailer}
-use Rattle.job.specs.JobCheck.{valuesCheck}
+use Rattle.job_bytes.specs.declared.version.Version.the-variants.{One}
+use Rattle.job_checks.specs.JobCheck.{valuesCheck}
 use Rattle.job.specs.Reader.{Lent, lent, jobAnswer, jobLists}
 use Rattle.job.specs.Writer.{lengthAnswer, writeAnswer, writeOutput}
 
@@ -16,21 +17,26 @@ T-arcs = arcRow 0 0 6 ++ arcRow 1 0 1 ++ arcRow 1 0 5 ++ arcRow 0 0 4
 
 -- T with no note, caps 100 and the proposal 8 4 4
 abbrev pub T-job : List ℕ
-T-job = T-arcs ++ memberRow 100 (pos 8) ++ memberRow 100 (pos 4) ++ memberRow 100 (pos 4) ++ trailer 0 32 4 3 1
+T-job =
+    T-arcs
+    ++ memberRow One 100 (pos 8) 0
+    ++ memberRow One 100 (pos 4) 0
+    ++ memberRow One 100 (pos 4) 0
+    ++ trailer 0 32 4 3 1
 
 -- T with a note of two bytes and the proposal -1 13 4
 abbrev pub noted-job : List ℕ
 noted-job =
     (7 ∷ 9 ∷ [])
     ++ T-arcs
-    ++ memberRow 100 (negsuc 0)
-    ++ memberRow 100 (pos 13)
-    ++ memberRow 100 (pos 4)
+    ++ memberRow One 100 (negsuc 0) 0
+    ++ memberRow One 100 (pos 13) 0
+    ++ memberRow One 100 (pos 4) 0
     ++ trailer 2 34 4 3 1
 
 -- T with one member row less
 abbrev pub fewer-job : List ℕ
-fewer-job = T-arcs ++ memberRow 100 (pos 8) ++ memberRow 100 (pos 4) ++ trailer 0 32 4 2 1
+fewer-job = T-arcs ++ memberRow One 100 (pos 8) 0 ++ memberRow One 100 (pos 4) 0 ++ trailer 0 32 4 2 1
 
 -- one above the greatest cost, and one above the greatest cap and share
 abbrev pub costAbove : ℕ
@@ -46,8 +52,8 @@ abbrev pub order-job : (version members-at filler₂ parent₁ cost₁ parent₂
 order-job version members-at filler₂ parent₁ cost₁ parent₂ cap₁ proposal₀ =
     arcRow parent₁ 0 cost₁
     ++ arcRow parent₂ filler₂ 1
-    ++ memberRow 100 (pos proposal₀)
-    ++ memberRow cap₁ (pos 1)
+    ++ memberRow One 100 (pos proposal₀) 0
+    ++ memberRow One cap₁ (pos 1) 0
     ++ trailer 0 members-at 2 2 version
 
 -- the same with each of them at fault
@@ -128,16 +134,16 @@ pub record JobTable : Type 0 where
       jobAnswer (order-job 1 16 0 0 6 0 100 8) (lists 1023) ≡ value (record { arcs = 2; members = 2; note = 0 })
   -- 1 after 14, and before 3, 4 and 15: the latter by the checks of the values alone, as 1,024 fillers compute slowly
   pub many-14 : Refuses (many-job 1) (lists 1023) 14 1
-  pub many-1 : valuesCheck (many-job 0) ≡ refused 1 0
+  pub many-1 : valuesCheck One (many-job 0) ≡ refused 1 0
   -- 1 where there are no arcs, before 15
-  pub none-1 : Refuses (memberRow 100 (pos 8) ++ trailer 0 0 0 1 1) (lists 1023) 1 0
+  pub none-1 : Refuses (memberRow One 100 (pos 8) 0 ++ trailer 0 0 0 1 1) (lists 1023) 1 0
   -- the writer: the sample, with and without bytes behind it, and asked for its length; the bits of a negative share
   pub T-made : T-job ≡ T-bytes
   pub T-asked : lengthAnswer T-contents ≡ value 96
   pub T-written : writeAnswer T-contents (output 96) ≡ value 96
   pub T-exact : writeOutput T-contents (output 96) ≡ T-bytes
   pub T-longer : writeOutput T-contents (output 99) ≡ T-bytes ++ (9 ∷ 9 ∷ 9 ∷ [])
-  pub negative-row : memberRow 0 (negsuc 1) ≡ replicate 8 0 ++ (254 ∷ replicate 7 255)
+  pub negative-row : memberRow One 0 (negsuc 1) 0 ≡ replicate 8 0 ++ (254 ∷ replicate 7 255)
   -- the order of its checks, as above: 20 stands beside each fault, and 19 where there are 256 bytes in the note
   pub write-1 : RefusesToWrite (faulty [] (costAbove ∷ [])) (output 0) 1 0
   pub write-2 : RefusesToWrite (faulty (1 ∷ 2 ∷ []) (costAbove ∷ [])) (output 0) 2 0

@@ -1,15 +1,16 @@
 -- What the writer answers, and its output afterwards.
 use Prim.Native.Nat.{ℕ}
-use mathlib.Core.List.{List, _++_}
-use lib.ListN.{length, drop}
+use mathlib.Core.List.{List}
+use lib.ListN.{length}
 use lib.Dec.{ltb}
 use Rattle.game.specs.Network.{memberCount}
 use Rattle.game.specs.Tree.{network, deadEndTree}
-use Rattle.answer_forms.specs.Answer.{Check, Answer, value, refusal, fault, _then_, answer, written}
+use Rattle.answer_forms.specs.Answer.{Check, Answer, value, refusal, fault, _then_, answer}
 use Rattle.answers.specs.Checks.{plainCheck, proposalCheck}
 use Rattle.answers.specs.Level.{capsCheck}
-use Rattle.job_bytes.specs.JobBytes.{Contents, jobBytes}
+use Rattle.job_bytes.specs.JobBytes.{Contents, plainJob}
 use Rattle.job_form.specs.Form.{longestNote}
+use Rattle.job_checks.specs.JobCheck.{spaceCheck, jobOutput}
 use Rattle.job.specs.declared.writer.JobLength.{JobLength}
 use Rattle.job.specs.declared.writer.JobLength.the-variants.{Length, Refused}
 
@@ -31,22 +32,17 @@ contentsCheck c =
 
 -- the job's length
 unfoldable pub lengthAnswer : Contents → Answer ℕ
-lengthAnswer c = answer (contentsCheck c) (length (jobBytes c))
-
--- 20: the output is shorter than the job
-abbrev pub spaceCheck : ℕ → ℕ → Check
-spaceCheck space size = fault (ltb space size) 20 0
+lengthAnswer c = answer (contentsCheck c) (length (plainJob c))
 
 -- the checks of the contents, then 20
 unfoldable pub writeCheck : Contents → List ℕ → Check
-writeCheck c out = contentsCheck c then spaceCheck (length out) (length (jobBytes c))
+writeCheck c out = contentsCheck c then spaceCheck (length out) (length (plainJob c))
 
 unfoldable pub writeAnswer : Contents → List ℕ → Answer ℕ
-writeAnswer c out = answer (writeCheck c out) (length (jobBytes c))
+writeAnswer c out = answer (writeCheck c out) (length (plainJob c))
 
--- the job in front, then the bytes as they came
 unfoldable pub writeOutput : Contents → List ℕ → List ℕ
-writeOutput c out = written (writeCheck c out) out (jobBytes c ++ drop (length (jobBytes c)) out)
+writeOutput c out = jobOutput (writeCheck c out) (plainJob c) out
 
 -- what each case of JobLength stands for
 abbrev pub jobLengthOf : JobLength → Answer ℕ

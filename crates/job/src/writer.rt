@@ -1,16 +1,17 @@
 // The job writer: the public entries that make a job of a note and lists.
-use crate::members::dead_end_members;
-use crate::members::tree_found;
 use answer_forms::Checked;
 use answer_forms::Refusal;
 use answer_forms::refusals;
 use answer_forms::refuse;
 use engine::MemberCount;
+use job_checks::check_space;
+use job_checks::dead_end_members;
+use job_checks::tree_found;
 use job_form::LONGEST_NOTE;
 ghost use mathlib.Core.Path.{_≡_};
 ghost use Rattle.answer_forms.specs.Checked.{checkOf};
 ghost use Rattle.job_bytes.specs.JobBytes.{contents};
-ghost use Rattle.job.specs.Writer.{noteCheck, spaceCheck, contentsCheck, lengthAnswer, writeAnswer, writeOutput};
+ghost use Rattle.job.specs.Writer.{noteCheck, contentsCheck, lengthAnswer, writeAnswer, writeOutput};
 ghost use Rattle.job.specs.Writer.{jobLengthOf};
 
 pub enum JobLength {
@@ -25,17 +26,6 @@ fn check_note(size: usize) -> Checked
 {
     if LONGEST_NOTE < size {
         refuse(refusals::NOTE_LENGTH, 0)
-    } else {
-        Checked::Accepted
-    }
-}
-
-// 20.
-fn check_space(space: usize, size: usize) -> Checked
-    ensures { λ r. ⌜ checkOf r ≡ spaceCheck space size ⌝ }
-{
-    if space < size {
-        refuse(refusals::JOB_SPACE, 0)
     } else {
         Checked::Accepted
     }
@@ -112,6 +102,6 @@ pub fn write_job(
     let Checked::Accepted = space else {
         return JobLength::Refused(answer_forms::refusal_of(space));
     };
-    job_bytes::put_job(out, note, parents, costs, caps, proposals);
+    job_bytes::put_plain(out, note, parents, costs, caps, proposals);
     JobLength::Length(length)
 }

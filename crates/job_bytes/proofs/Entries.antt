@@ -1,13 +1,20 @@
 -- A loop that writes a list given entry by entry into the front of another list.
-use Prim.Native.Nat.{ℕ, suc, _+_, _<_, _≤_}
+use Prim.Native.Nat.{ℕ, suc, _+_, _*_, _<_, _≤_}
 use mathlib.Core.Path.{_≡_, refl, sym, ap, _∙_}
 use mathlib.Core.List.{List, _++_}
+use native.Mathlib.Nat.{mul-le-mul-left}
 use native.Mathlib.Numerals.{add-one}
 use native.Mathlib.Omega.{arith}
 use lib.ListN.{length, getD, set, drop, length-set}
 use lib.Seq.{drop-cons, set-at, append-snoc}
 use Rattle.basics.specs.Sum.{entries}
 use Rattle.basics.proofs.Lists.{entries-length}
+use Rattle.job_bytes.specs.Inner.{Within}
+
+-- a column stands within the bytes where its rows do: its numbers stand some bytes behind the start of their rows
+pub column-within : (bytes : List ℕ) (width offset behind stride rows : ℕ) → behind + width ≤ stride
+    → offset + stride * rows ≤ length bytes → Within bytes width (offset + behind) stride rows
+column-within bytes width offset behind stride rows narrow h = λ i l. omega (arith, mul-le-mul-left stride l)
 
 module _ {A : Type 0} where
   -- one entry more

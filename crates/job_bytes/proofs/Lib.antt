@@ -5,3 +5,4 @@ pub mod Parts
 pub mod PartsRead
 pub mod ReadBack
 mod Putting
+pub mod Zeros

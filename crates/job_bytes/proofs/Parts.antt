@@ -9,7 +9,9 @@ use lib.IntN.{ℤ}
 use Rattle.numbers.specs.Signed.{signed64, bits64}
 use Rattle.numbers.proofs.TwosComplement.{bits-of-signed}
 use Rattle.job_bytes.specs.Numbers.{byteAt, littleEndian, inBytes, Bytes}
-use Rattle.job_bytes.specs.JobBytes.{Contents, arcRow, memberRow, trailer, arcRows, memberRows, jobBytes}
+use Rattle.job_bytes.specs.Versions.{versionNumber, floorWidth, memberWidth}
+use Rattle.job_bytes.specs.declared.version.Version.{Version}
+use Rattle.job_bytes.specs.JobBytes.{Held, arcRow, memberRow, trailer, arcRows, memberRows, jobBytes}
 use Rattle.job_bytes.proofs.Standing.{Stands, stands-both, number-stands, number-small}
 use Rattle.job_bytes.proofs.Standing.{inBytes-length, rows-length}
 
@@ -23,9 +25,18 @@ arc-row-length parent filler cost =
     longer (inBytes 2 parent ++ inBytes 2 filler) 4 4 cost
     (longer (inBytes 2 parent) 2 2 filler (inBytes-length 2 parent))
 
-pub member-row-length : (cap : ℕ) (proposal : ℤ) → length (memberRow cap proposal) ≡ 16
+-- the cap and the proposal of a member row
+abbrev pub shares : ℕ → ℤ → List ℕ
+shares cap proposal = inBytes 8 cap ++ inBytes 8 (bits64 proposal)
+
+pub shares-length : (cap : ℕ) (proposal : ℤ) → length (shares cap proposal) ≡ 16
+shares-length cap proposal = longer (inBytes 8 cap) 8 8 (bits64 proposal) (inBytes-length 8 cap)
+
+pub member-row-length : (v : Version) (cap : ℕ) (proposal : ℤ) (floor : ℕ)
+    → length (memberRow v cap proposal floor) ≡ memberWidth v
 unfolding memberRow
-member-row-length cap proposal = longer (inBytes 8 cap) 8 8 (bits64 proposal) (inBytes-length 8 cap)
+member-row-length v cap proposal floor =
+    longer (shares cap proposal) 16 (floorWidth v) floor (shares-length cap proposal)
 
 -- the first two, three, four and five fields of the trailer
 abbrev pub fields₂ : ℕ → ℕ → List ℕ
@@ -59,27 +70,31 @@ trailer-length a o m n v =
     omega (arith, length-append {A = ℕ} (fields₅ a o m n v) (84 ∷ 74 ∷ []), fields₅-length a o m n v)
 
 -- the whole job
-pub arc-rows-length : (parents costs : List ℕ) → length (arcRows parents costs) ≡ 8 * length parents
-arc-rows-length parents costs = rows-length _ 8 (λ i. arc-row-length _ 0 _) (length parents)
+pub arc-rows-length : (parents fillers costs : List ℕ) → length (arcRows parents fillers costs) ≡ 8 * length parents
+arc-rows-length parents fillers costs = rows-length _ 8 (λ i. arc-row-length _ _ _) (length parents)
 
-pub member-rows-length : (caps : List ℕ) (proposals : List ℤ) → length (memberRows caps proposals) ≡ 16 * length caps
-member-rows-length caps proposals = rows-length _ 16 (λ j. member-row-length _ _) (length caps)
+pub member-rows-length : (v : Version) (caps : List ℕ) (proposals : List ℤ) (floors : List ℕ)
+    → length (memberRows v caps proposals floors) ≡ memberWidth v * length caps
+member-rows-length v caps proposals floors =
+    rows-length _ (memberWidth v) (λ j. member-row-length v _ _ _) (length caps)
 
-pub job-length : (c : Contents)
-    → length (jobBytes c) ≡ length (c .note) + 8 * length (c .parents) + 16 * length (c .caps) + 16
+pub job-length : (v : Version) (c : Held)
+    → length (jobBytes v c) ≡ length (c .note) + 8 * length (c .parents) + memberWidth v * length (c .caps) + 16
 unfolding jobBytes
-job-length c =
+job-length v c =
     let note = length (c .note) in
     let arcs = length (c .parents) in
-    let end = trailer note (note + 8 * arcs) arcs (length (c .caps)) 1 in
+    let arc-rows = arcRows (c .parents) (c .fillers) (c .costs) in
+    let member-rows = memberRows v (c .caps) (c .proposals) (c .floors) in
+    let end = trailer note (note + 8 * arcs) arcs (length (c .caps)) (versionNumber v) in
     omega (
       arith,
-      length-append (c .note) (arcRows (c .parents) (c .costs)),
-      length-append (c .note ++ arcRows (c .parents) (c .costs)) (memberRows (c .caps) (c .proposals)),
-      length-append (c .note ++ arcRows (c .parents) (c .costs) ++ memberRows (c .caps) (c .proposals)) end,
-      arc-rows-length (c .parents) (c .costs),
-      member-rows-length (c .caps) (c .proposals),
-      trailer-length note (note + 8 * arcs) arcs (length (c .caps)) 1,
+      length-append (c .note) arc-rows,
+      length-append (c .note ++ arc-rows) member-rows,
+      length-append (c .note ++ arc-rows ++ member-rows) end,
+      arc-rows-length (c .parents) (c .fillers) (c .costs),
+      member-rows-length v (c .caps) (c .proposals) (c .floors),
+      trailer-length note (note + 8 * arcs) arcs (length (c .caps)) (versionNumber v),
     )
 
 module _ (bytes : List ℕ) (b : Bytes bytes) (at : ℕ) where
@@ -93,12 +108,14 @@ module _ (bytes : List ℕ) (b : Bytes bytes) (at : ℕ) where
   unfolding arcRow
   arc-row-stands = stands-both (stands-both (number-stands bytes b 2 at) (number 2 2)) (number 4 4)
 
-  pub member-row-stands :
-      Stands bytes at 16 (memberRow (littleEndian bytes at 8) (signed64 (littleEndian bytes (at + 8) 8)))
+  pub member-row-stands : (v : Version)
+      → Stands bytes at (memberWidth v)
+      (memberRow v (littleEndian bytes at 8) (signed64 (littleEndian bytes (at + 8) 8))
+      (littleEndian bytes (at + 16) (floorWidth v)))
   unfolding memberRow
-  member-row-stands =
+  member-row-stands v =
       rw (bits-of-signed (littleEndian bytes (at + 8) 8) (number-small bytes b 8 (at + 8)))
-      (stands-both (number-stands bytes b 8 at) (number 8 8))
+      (stands-both (stands-both (number-stands bytes b 8 at) (number 8 8)) (number 16 (floorWidth v)))
 
   module _ (first : byteAt bytes (at + 14) ≡ 84) (second : byteAt bytes (at + 15) ≡ 74) where
     closing-stands : Stands bytes (at + 14) 2 (84 ∷ 74 ∷ [])

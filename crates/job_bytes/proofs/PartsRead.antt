@@ -9,9 +9,11 @@ use lib.IntN.{ℤ, natAbs}
 use Rattle.numbers.specs.Signed.{signed64, bits64}
 use Rattle.numbers.proofs.TwosComplement.{signed-of-bits, bits-small}
 use Rattle.job_bytes.specs.Numbers.{byteAt, littleEndian, inBytes}
+use Rattle.job_bytes.specs.Versions.{floorWidth, memberWidth}
+use Rattle.job_bytes.specs.declared.version.Version.{Version}
 use Rattle.job_bytes.specs.JobBytes.{arcRow, memberRow, trailer}
 use Rattle.job_bytes.proofs.Standing.{Stands, stands-first, stands-second, stands-number, inBytes-length}
-use Rattle.job_bytes.proofs.Parts.{longer, fields₂, fields₃, fields₄, fields₅}
+use Rattle.job_bytes.proofs.Parts.{longer, shares, shares-length, fields₂, fields₃, fields₄, fields₅}
 use Rattle.job_bytes.proofs.Parts.{fields₂-length, fields₃-length, fields₄-length, fields₅-length}
 
 module _ {bytes : List ℕ} {at : ℕ} where
@@ -42,17 +44,27 @@ module _ {bytes : List ℕ} {at : ℕ} where
         last-number (inBytes 2 parent ++ inBytes 2 filler) 4 4 cost
         (longer (inBytes 2 parent) 2 2 filler (inBytes-length 2 parent)) small h
 
-  module _ (cap : ℕ) (proposal : ℤ) (h : Stands bytes at 16 (memberRow cap proposal)) where
-    pub cap-read : cap < 256 ^ 8 → littleEndian bytes at 8 ≡ cap
+  module _ (v : Version) (cap : ℕ) (proposal : ℤ) (floor : ℕ)
+      (h : Stands bytes at (memberWidth v) (memberRow v cap proposal floor)) where
+    shares-stand : Stands bytes at 16 (shares cap proposal)
     unfolding memberRow
+    shares-stand =
+        stands-first (shares cap proposal) (inBytes (floorWidth v) floor) (shares-length cap proposal) h
+
+    pub cap-read : cap < 256 ^ 8 → littleEndian bytes at 8 ≡ cap
     cap-read small =
-        stands-number 8 small (stands-first (inBytes 8 cap) (inBytes 8 (bits64 proposal)) (inBytes-length 8 cap) h)
+        stands-number 8 small
+        (stands-first (inBytes 8 cap) (inBytes 8 (bits64 proposal)) (inBytes-length 8 cap) shares-stand)
 
     pub proposal-read : natAbs proposal < 2 ^ 63 → signed64 (littleEndian bytes (at + 8) 8) ≡ proposal
-    unfolding memberRow
     proposal-read small =
-        rw (last-number (inBytes 8 cap) 8 8 (bits64 proposal) (inBytes-length 8 cap) (bits-small proposal small) h)
+        let bits = bits-small proposal small in
+        rw (last-number (inBytes 8 cap) 8 8 (bits64 proposal) (inBytes-length 8 cap) bits shares-stand)
         (signed-of-bits proposal small)
+
+    pub floor-read : floor < 256 ^ floorWidth v → littleEndian bytes (at + 16) (floorWidth v) ≡ floor
+    unfolding memberRow
+    floor-read small = last-number (shares cap proposal) 16 (floorWidth v) floor (shares-length cap proposal) small h
 
   -- the trailer's fields: the first two, three, four and five of them stand
   module _ (a o m n v : ℕ) (h : Stands bytes at 16 (trailer a o m n v)) where

@@ -1,16 +1,19 @@
 -- A loop that writes a number in bytes, the least significant first; and the parts of a job.
 use Prim.Native.Nat.{ℕ, suc, _+_, _*_, _-_, _/_, _%_, _<_, _≤_}
 use mathlib.Core.Path.{_≡_, sym, ap, _∙_}
-use mathlib.Core.List.{List, _∷_}
+use mathlib.Core.List.{List, _∷_, _++_}
 use native.Mathlib.Nat.{sub-zero}
 use native.Mathlib.Numerals.{add-one}
 use native.Mathlib.Omega.{arith}
-use lib.ListN.{length, getD, set, drop}
+use lib.ListN.{length, getD, set, drop, replicate, getD-replicate}
+use lib.IntN.{ℤ, pos}
 use lib.Seq.{drop-cons}
 use Rattle.buffer.specs.Put.{Put}
 use Rattle.buffer.proofs.Pieces.{put-then, Copying, copy-start, copy-on, copy-end}
 use Rattle.job_bytes.specs.Numbers.{inBytes}
-use Rattle.job_bytes.specs.JobBytes.{Contents, arcRows, memberRows, trailer, jobBytes}
+use Rattle.job_bytes.specs.Versions.{versionNumber}
+use Rattle.job_bytes.specs.declared.version.Version.{Version}
+use Rattle.job_bytes.specs.JobBytes.{Held, rows, memberRow, arcRows, memberRows, trailer, jobBytes}
 use Rattle.job_bytes.proofs.Standing.{inBytes-length}
 use Rattle.job_bytes.proofs.Parts.{arc-rows-length}
 
@@ -48,16 +51,32 @@ module _ (before : List ℕ) (at width n : ℕ) where
           rw (inBytes-length width n) at
           (copy-end before at (inBytes width n) fits (s .copied) (omega (arith, inBytes-length width n)))
 
+-- the first rows of so many members, with floors of 0
+abbrev pub floorless : Version → List ℕ → List ℤ → ℕ → List ℕ
+floorless v caps proposals =
+    rows (λ j. memberRow v (getD caps j 0) (getD proposals j (pos 0)) (getD (replicate (length caps) 0) j 0))
+
 -- the parts of a job, written one after the other
-pub job-put : {before noted with-arcs with-members after : List ℕ} {arcs-at members-at end place : ℕ} (c : Contents)
+pub job-put : {before noted with-arcs with-members after : List ℕ} {arcs-at members-at end place : ℕ}
+    (v : Version) (c : Held)
     → Put before 0 (c .note) noted arcs-at
-    → Put noted arcs-at (arcRows (c .parents) (c .costs)) with-arcs members-at
-    → Put with-arcs members-at (memberRows (c .caps) (c .proposals)) with-members end
-    → Put with-members end (trailer arcs-at members-at (length (c .parents)) (length (c .caps)) 1) after place
-    → Put before 0 (jobBytes c) after place
+    → Put noted arcs-at (arcRows (c .parents) (c .fillers) (c .costs)) with-arcs members-at
+    → Put with-arcs members-at (memberRows v (c .caps) (c .proposals) (c .floors)) with-members end
+    → Put with-members end (trailer arcs-at members-at (length (c .parents)) (length (c .caps)) (versionNumber v)) after
+    place
+    → Put before 0 (jobBytes v c) after place
 unfolding jobBytes
-job-put {arcs-at = arcs-at} {members-at = members-at} c note arcs members last =
+job-put {arcs-at = arcs-at} {members-at = members-at} v c note arcs members last =
     let first : arcs-at ≡ length (c .note) = omega (arith, note .ends) in
     let second : members-at ≡ length (c .note) + 8 * length (c .parents) =
-    omega (arith, first, arcs .ends, arc-rows-length (c .parents) (c .costs)) in
+    omega (arith, first, arcs .ends, arc-rows-length (c .parents) (c .fillers) (c .costs)) in
     put-then (put-then (put-then note arcs) members) (rw (first, second) at last)
+
+-- one member row more, with a floor of 0
+pub member-more : (v : Version) (caps : List ℕ) (proposals : List ℤ) (j : ℕ) → j < length caps
+    → floorless v caps proposals (suc j)
+    ≡ floorless v caps proposals j ++ memberRow v (getD caps j 0) (getD proposals j (pos 0)) 0
+unfolding rows
+member-more v caps proposals j h =
+    ap (λ (f : ℕ). floorless v caps proposals j ++ memberRow v (getD caps j 0) (getD proposals j (pos 0)) f)
+    (getD-replicate (length caps) j 0 0 h)

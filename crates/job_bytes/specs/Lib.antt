@@ -1,4 +1,5 @@
 pub mod Numbers
+pub mod Versions
 pub mod JobBytes
 pub mod Format
 pub mod Inner

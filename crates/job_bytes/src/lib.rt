@@ -1,15 +1,20 @@
-// The numbers in a job's bytes, its trailer and its rows: read into lists, and written from lists.
+// The numbers in a job's bytes, its trailer and its rows, of either version: read into lists, and written from lists.
+mod columns;
 mod number;
 mod put_parts;
 mod put_rows;
-mod rows;
 mod trailer;
+mod version;
 
+pub use columns::read_i64;
+pub use columns::read_u16;
+pub use columns::read_u32;
+pub use columns::read_u64;
 pub use number::number_at;
 pub use put_parts::put_job;
-pub use rows::read_caps;
-pub use rows::read_costs;
-pub use rows::read_parents;
-pub use rows::read_proposals;
+pub use put_parts::put_plain;
 pub use trailer::Trailer;
 pub use trailer::read_trailer;
+pub use version::Version;
+pub use version::floor_width;
+pub use version::version_number;

@@ -1,10 +1,13 @@
 // A number and the rows of a job, written into a lent list at a place. Each function answers the place after what it
 // wrote.
+use crate::version::Version;
+use crate::version::floor_width;
 ghost use mathlib.Core.Path.{_≡_};
 ghost use Prim.Native.Nat.{_+_, _≤_};
 ghost use lib.ListN.{length};
 ghost use Rattle.buffer.specs.Put.{Put};
 ghost use Rattle.job_bytes.specs.Numbers.{inBytes};
+ghost use Rattle.job_bytes.specs.Versions.{memberWidth};
 ghost use Rattle.job_bytes.specs.JobBytes.{arcRow, memberRow};
 
 // A number in `width` bytes.
@@ -33,11 +36,19 @@ pub fn put_arc(out: &mut [u8], at: usize, parent: u16, filler: u16, cost: u32) -
     put_number(out, b, 4, cost as u64)
 }
 
-pub fn put_member(out: &mut [u8], at: usize, cap: u64, proposal: i64) -> usize
-    requires { ⌜ at + 16 ≤ length (now out) ⌝ }
-    ensures { λ r. ⌜ Put (now (out .entry)) at (memberRow cap proposal) (now (out .exit)) r ⌝ }
-    ensures { λ r. ⌜ r ≡ at + 16 ⌝ }
+pub fn put_member(
+    out: &mut [u8],
+    at: usize,
+    version: Version,
+    cap: u64,
+    proposal: i64,
+    floor: u64,
+) -> usize
+    requires { ⌜ at + memberWidth version ≤ length (now out) ⌝ }
+    ensures { λ r. ⌜ Put (now (out .entry)) at (memberRow version cap proposal floor) (now (out .exit)) r ⌝ }
+    ensures { λ r. ⌜ r ≡ at + memberWidth version ⌝ }
 {
     let a = put_number(out, at, 8, cap);
-    put_number(out, a, 8, numbers::bits_of(proposal))
+    let b = put_number(out, a, 8, numbers::bits_of(proposal));
+    put_number(out, b, floor_width(version), floor)
 }

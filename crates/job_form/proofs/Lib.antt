@@ -1,4 +1,5 @@
-mod Rows
 pub mod FormAccepted
-pub mod WrittenAgain
+pub mod FillersAccepted
 pub mod FormMade
+mod Rows
+pub mod WrittenAgain

@@ -1,49 +1,37 @@
 -- A job of accepted form is made of what it holds.
-use Prim.Native.Nat.{ℕ, zero, suc, _+_, _*_, _-_, _<_}
-use mathlib.Core.Path.{_≡_}
-use mathlib.Core.Bool.{not}
+use Prim.Native.Nat.{ℕ, _+_, _*_, _-_, _<_}
+use mathlib.Core.Path.{_≡_, ap, _∙_}
 use mathlib.Core.List.{List}
 use native.Mathlib.Omega.{arith}
-use native.Mathlib.Nat.{add-zero, zero-add}
 use lib.ListN.{length, getD}
 use lib.IntN.{pos}
-use lib.Dec.{eqb}
 use Rattle.basics.proofs.Lists.{entries-length, entries-at}
-use Rattle.answer_forms.specs.Answer.{accepted, fault}
-use Rattle.answer_forms.proofs.Composed.{first-accepted, second-accepted, no-fault}
-use Rattle.job_bytes.specs.Numbers.{Bytes}
+use Rattle.numbers.specs.Signed.{signed64}
+use Rattle.answer_forms.specs.Answer.{accepted}
+use Rattle.job_bytes.specs.Numbers.{Bytes, littleEndian}
+use Rattle.job_bytes.specs.Versions.{versionNumber, floorWidth, memberWidth}
+use Rattle.job_bytes.specs.declared.version.Version.{Version}
 use Rattle.job_bytes.specs.JobBytes.{arcRow, memberRow, arcRows, memberRows, trailer, jobBytes}
-use Rattle.job_bytes.specs.Format.{trailerAt, arcOffset, memberOffset, jobArcs, jobMembers, version}
-use Rattle.job_bytes.specs.Format.{fillerAt, parentAt, costAt, capAt, proposalAt}
-use Rattle.job_bytes.specs.Format.{jobNote, jobParents, jobCosts, jobCaps, jobProposals, jobContents}
+use Rattle.job_bytes.specs.Format.{trailerAt, arcOffset, memberOffset, jobArcs, jobMembers, version, column}
+use Rattle.job_bytes.specs.Format.{fillerAt, parentAt, costAt, capAt, proposalAt, floorAt}
+use Rattle.job_bytes.specs.Format.{jobNote, jobParents, jobFillers, jobCosts, jobCaps, jobProposals, jobFloors}
+use Rattle.job_bytes.specs.Format.{jobHeld}
 use Rattle.job_bytes.proofs.Standing.{Stands, front-stands, stands-all, stands-at, stands-both, stands-rows}
 use Rattle.job_bytes.proofs.Parts.{arc-row-stands, member-row-stands, trailer-stands}
 use Rattle.job_form.specs.Inner.{Layout}
-use Rattle.job_form.specs.Form.{formCheck, fillersFrom, fillersCheck}
-use Rattle.job_form.proofs.FormAccepted.{alike, form-signature, form-layout}
+use Rattle.job_form.specs.Form.{formCheck}
+use Rattle.job_form.proofs.FormAccepted.{form-signature, form-layout}
 
--- accepted fillers are zero
-fillers-clear : (bytes : List ℕ) (offset rows i : ℕ) → fillersFrom bytes offset i rows ≡ accepted
-    → (j : ℕ) → j < rows → fillerAt bytes offset (i + j) ≡ 0
-unfolding fillersFrom
-fillers-clear bytes offset zero i e j h = absurd (omega arith)
-fillers-clear bytes offset (suc rows) i e zero h =
-    let full = not (eqb (fillerAt bytes offset i) 0) in
-    let none = first-accepted (fault full 14 (i + 1)) (fillersFrom bytes offset (i + 1) rows) e in
-    rw (add-zero i) (alike (fillerAt bytes offset i) 0 (no-fault full 14 (i + 1) none))
-fillers-clear bytes offset (suc rows) i e (suc j) h =
-    let here = fault (not (eqb (fillerAt bytes offset i) 0)) 14 (i + 1) in
-    let rest = second-accepted here (fillersFrom bytes offset (i + 1) rows) e in
-    let next : i + suc j ≡ i + 1 + j = omega arith in
-    rw next (fillers-clear bytes offset rows (i + 1) rest j (omega arith))
+module _ (v : Version) (bytes : List ℕ) (b : Bytes bytes) (form : formCheck v bytes ≡ accepted) where
+  layout : Layout v bytes
+  layout = form-layout v bytes form
 
-module _ (bytes : List ℕ) (b : Bytes bytes) (form : formCheck bytes ≡ accepted)
-    (fillers : fillersCheck bytes ≡ accepted) where
-  layout : Layout bytes
-  layout = form-layout bytes form
-
-  filler-zero : (i : ℕ) → i < jobArcs bytes → fillerAt bytes (arcOffset bytes) i ≡ 0
-  filler-zero i h = rw zero-add at (fillers-clear bytes (arcOffset bytes) (jobArcs bytes) 0 fillers i h)
+  -- a column's number by its place in the row
+  behind : (width at k stride i : ℕ)
+      → column bytes width (at + k) stride i ≡ littleEndian bytes (at + stride * i + k) width
+  behind width at k stride i =
+      let place : at + k + stride * i ≡ at + stride * i + k = omega arith in
+      ap (λ (p : ℕ). littleEndian bytes p width) place
 
   note-stands : Stands bytes 0 (arcOffset bytes) (jobNote bytes)
   note-stands = front-stands (arcOffset bytes) (omega (arith, layout .arcs-end, layout .members-end))
@@ -51,57 +39,66 @@ module _ (bytes : List ℕ) (b : Bytes bytes) (form : formCheck bytes ≡ accept
   arcs : length (jobParents bytes) ≡ jobArcs bytes
   arcs = entries-length (parentAt bytes (arcOffset bytes)) (jobArcs bytes)
 
-  members : length (jobCaps bytes) ≡ jobMembers bytes
-  members = entries-length (capAt bytes (memberOffset bytes)) (jobMembers bytes)
+  members : length (jobCaps v bytes) ≡ jobMembers bytes
+  members = entries-length (capAt v bytes (memberOffset bytes)) (jobMembers bytes)
 
   arc-row : (i : ℕ) → i < jobArcs bytes
-      → Stands bytes (arcOffset bytes + 8 * i) 8 (arcRow (getD (jobParents bytes) i 0) 0 (getD (jobCosts bytes) i 0))
+      → Stands bytes (arcOffset bytes + 8 * i) 8
+      (arcRow (getD (jobParents bytes) i 0) (getD (jobFillers bytes) i 0) (getD (jobCosts bytes) i 0))
   arc-row i h =
+      let o = arcOffset bytes in
       rw (
-        entries-at (parentAt bytes (arcOffset bytes)) 0 (jobArcs bytes) i h,
-        entries-at (costAt bytes (arcOffset bytes)) 0 (jobArcs bytes) i h,
+        entries-at (parentAt bytes o) 0 (jobArcs bytes) i h,
+        entries-at (fillerAt bytes o) 0 (jobArcs bytes) i h ∙ behind 2 o 2 8 i,
+        entries-at (costAt bytes o) 0 (jobArcs bytes) i h ∙ behind 4 o 4 8 i,
       )
-      (rw (filler-zero i h) at (arc-row-stands bytes b (arcOffset bytes + 8 * i)))
+      (arc-row-stands bytes b (o + 8 * i))
 
-  arcs-stand : Stands bytes (arcOffset bytes) (8 * jobArcs bytes) (arcRows (jobParents bytes) (jobCosts bytes))
+  arcs-stand :
+      Stands bytes (arcOffset bytes) (8 * jobArcs bytes)
+      (arcRows (jobParents bytes) (jobFillers bytes) (jobCosts bytes))
   arcs-stand = rw arcs (stands-rows 8 _ (jobArcs bytes) arc-row)
 
   member-row : (j : ℕ) → j < jobMembers bytes
-      → Stands bytes (memberOffset bytes + 16 * j) 16
-      (memberRow (getD (jobCaps bytes) j 0) (getD (jobProposals bytes) j (pos 0)))
+      → Stands bytes (memberOffset bytes + memberWidth v * j) (memberWidth v)
+      (memberRow v (getD (jobCaps v bytes) j 0) (getD (jobProposals v bytes) j (pos 0)) (getD (jobFloors v bytes) j 0))
   member-row j h =
+      let o = memberOffset bytes in
+      let w = memberWidth v in
       rw (
-        entries-at (capAt bytes (memberOffset bytes)) 0 (jobMembers bytes) j h,
-        entries-at (proposalAt bytes (memberOffset bytes)) (pos 0) (jobMembers bytes) j h,
+        entries-at (capAt v bytes o) 0 (jobMembers bytes) j h,
+        entries-at (proposalAt v bytes o) (pos 0) (jobMembers bytes) j h ∙ ap signed64 (behind 8 o 8 w j),
+        entries-at (floorAt v bytes o) 0 (jobMembers bytes) j h ∙ behind (floorWidth v) o 16 w j,
       )
-      (member-row-stands bytes b (memberOffset bytes + 16 * j))
+      (member-row-stands bytes b (o + w * j) v)
 
   members-stand :
-      Stands bytes (memberOffset bytes) (16 * jobMembers bytes) (memberRows (jobCaps bytes) (jobProposals bytes))
-  members-stand = rw members (stands-rows 16 _ (jobMembers bytes) member-row)
+      Stands bytes (memberOffset bytes) (memberWidth v * jobMembers bytes)
+      (memberRows v (jobCaps v bytes) (jobProposals v bytes) (jobFloors v bytes))
+  members-stand = rw members (stands-rows (memberWidth v) _ (jobMembers bytes) member-row)
 
   end-stands :
       Stands bytes (trailerAt bytes) 16
-      (trailer (arcOffset bytes) (memberOffset bytes) (jobArcs bytes) (jobMembers bytes) 1)
+      (trailer (arcOffset bytes) (memberOffset bytes) (jobArcs bytes) (jobMembers bytes) (versionNumber v))
   unfolding arcOffset memberOffset jobArcs jobMembers version
   end-stands =
-      let signature = form-signature bytes form in
+      let signature = form-signature v bytes form in
       rw (signature .version-is) at
       (trailer-stands bytes b (trailerAt bytes) (signature .closing0-is) (signature .closing1-is))
 
   -- the trailer is that of the contents
   end-same :
-      trailer (arcOffset bytes) (memberOffset bytes) (jobArcs bytes) (jobMembers bytes) 1
+      trailer (arcOffset bytes) (memberOffset bytes) (jobArcs bytes) (jobMembers bytes) (versionNumber v)
       ≡ trailer (length (jobNote bytes)) (length (jobNote bytes) + 8 * length (jobParents bytes))
-      (length (jobParents bytes)) (length (jobCaps bytes)) 1
+      (length (jobParents bytes)) (length (jobCaps v bytes)) (versionNumber v)
   end-same = rw (note-stands .sized, arcs, members, layout .arcs-end)
 
-  pub written-again : jobBytes (jobContents bytes) ≡ bytes
+  pub written-again : jobBytes v (jobHeld v bytes) ≡ bytes
   unfolding jobBytes
   written-again =
       let o = arcOffset bytes in
       let r = 8 * jobArcs bytes in
-      let n = 16 * jobMembers bytes in
+      let n = memberWidth v * jobMembers bytes in
       let to-arcs : o ≡ 0 + o = omega arith in
       let to-members : memberOffset bytes ≡ 0 + (o + r) = omega (arith, layout .arcs-end) in
       let to-end : trailerAt bytes ≡ 0 + (o + r + n) = omega (arith, layout .arcs-end, layout .members-end) in

@@ -12,10 +12,11 @@ use Rattle.basics.specs.Sum.{entries}
 use Rattle.basics.proofs.Lists.{entries-length, entries-part}
 use Rattle.game.specs.Tree.{network}
 use Rattle.answer_forms.specs.Answer.{Check, accepted, value, refusal, written}
-use Rattle.answers.specs.Checks.{treeCheck}
+use Rattle.answers.specs.Checks.{treeCheck, oneByOne}
 use Rattle.answer_forms.proofs.Composed.{answered, refused-answer}
 use Rattle.job_bytes.specs.Format.{jobParents, jobCosts, jobCaps, jobProposals}
-use Rattle.job.specs.JobCheck.{jobCheck}
+use Rattle.job_bytes.specs.declared.version.Version.the-variants.{One}
+use Rattle.job_checks.specs.JobCheck.{roomCheck, marksOf, jobCheck}
 use Rattle.job.specs.Reader.{Lent, JobValue, readCheck, jobValue, jobAnswer, jobLists}
 use Rattle.job.specs.Laws.{frontTree, Usable}
 use Rattle.job.proofs.Laws.{read-usable}
@@ -39,11 +40,11 @@ module _ {A : Type 0} where
 
 -- the fronts of the lists hold the values of an accepted job, and the engine's checks find nothing in them
 pub record Fronts (bytes : List ℕ) (v : JobValue) (l : Lent) : Type 0 where
-  pub check : jobCheck bytes ≡ accepted
+  pub check : jobCheck One bytes ≡ accepted
   pub parents : Front (v .arcs) (jobParents bytes) (l .parents)
   pub costs : Front (v .arcs) (jobCosts bytes) (l .costs)
-  pub caps : Front (v .members) (jobCaps bytes) (l .caps)
-  pub proposals : Front (v .members) (jobProposals bytes) (l .proposals)
+  pub caps : Front (v .members) (jobCaps One bytes) (l .caps)
+  pub proposals : Front (v .members) (jobProposals One bytes) (l .proposals)
   pub usable : Usable v l
 
 -- each list has room for the largest tree
@@ -54,8 +55,8 @@ pub record Roomy (l : Lent) : Type 0 where
   pub proposals : length (l .proposals) ≡ mostArcs
 
 module _ (bytes : List ℕ) (l : Lent) (room : Roomy l) where
-  checked : readCheck bytes l ≡ jobCheck bytes
-  unfolding readCheck
+  checked : readCheck bytes l ≡ jobCheck One bytes
+  unfolding readCheck roomCheck oneByOne
   checked = rw (room .parents, room .costs, room .caps, room .proposals)
 
   pub fronts : {v : JobValue} {after : Lent} → value v ≡ jobAnswer bytes l → after ≡ jobLists bytes l
@@ -90,5 +91,5 @@ module _ {bytes : List ℕ} {v : JobValue} {l : Lent} (f : Fronts bytes v l) whe
   pub front-report :
       jobText (frontTree (v .arcs - 0) l) (take (v .members - 0) (l .caps)) (take (v .members - 0) (l .proposals))
       ≡ reportText bytes
-  unfolding reportText
+  unfolding reportText marksOf
   front-report = rw (f .parents .taken, f .costs .taken, f .caps .taken, f .proposals .taken, f .check)

@@ -16,10 +16,11 @@ use Rattle.answers.specs.Level.{splitFrom, levelAnswer, levelList}
 use Rattle.answers.specs.ByArc.{byArcList}
 use Rattle.numbers.specs.Signed.{signed64, bits64}
 use Rattle.job_bytes.specs.Numbers.{littleEndian, inBytes}
+use Rattle.job_bytes.specs.Versions.{versionNumber, floorWidth}
 use Rattle.job_bytes.specs.JobBytes.{arcRow, memberRow, trailer}
 use Rattle.job_bytes.specs.Format.{arcOffset, memberOffset, jobArcs, jobMembers, version}
-use Rattle.job_form.specs.Form.{formCheck, fillersFrom}
-use Rattle.job.specs.JobCheck.{sharesCheck, valuesCheck, jobCheck}
+use Rattle.job_form.specs.Form.{mostBytes, formCheck, fillerCheck, fillersFrom}
+use Rattle.job_checks.specs.JobCheck.{marksOf, sharesCheck, valuesCheck, jobCheck}
 use Rattle.text.specs.Decimal.{decimalIn, decimal, signedDecimal}
 use Rattle.report_lines.specs.Lines.{groupText, memberLines}
 use Rattle.report_text.specs.Report.{treeText, splitText, reportText}
@@ -31,6 +32,7 @@ unfolding climb used groupCost sumBelow wholeCost membersTo hasChild deadEnds co
     firstLeast units arcsDown tallied giveArc handled oneByOne treeCheck rangeCheck totalAnswer searchAnswer
     searchWords inwardWithin splitFrom levelAnswer levelList byArcList littleEndian signed64 inBytes bits64 entries
     arcRow memberRow trailer arcOffset memberOffset jobArcs jobMembers version formCheck fillersFrom sharesCheck
+    versionNumber floorWidth mostBytes fillerCheck marksOf
     valuesCheck jobCheck decimalIn decimal signedDecimal
     groupText memberLines treeText splitText reportText
 table =

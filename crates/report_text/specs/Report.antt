@@ -10,7 +10,8 @@ use Rattle.answers.specs.Audit.{totalAnswer, searchAnswer, searchWords}
 use Rattle.answers.specs.Level.{levelAnswer, levelList}
 use Rattle.answers.specs.ByArc.{byArcList}
 use Rattle.job_bytes.specs.Format.{jobCaps, jobProposals}
-use Rattle.job.specs.JobCheck.{jobCheck, jobTree}
+use Rattle.job_bytes.specs.declared.version.Version.the-variants.{One}
+use Rattle.job_checks.specs.JobCheck.{jobCheck, jobTree}
 use Rattle.report_lines.specs.Lines.{refusedLine, costLine, auditText, levelLine, memberLines}
 
 -- a list to be written, with one entry a member
@@ -47,8 +48,9 @@ abbrev pub jobText : Tree → List ℕ → List ℤ → List ℕ
 jobText t caps proposed = treeText t proposed ++ splitText t caps proposed
 
 abbrev pub reportOf : Check → List ℕ → List ℕ
-reportOf accepted bytes = jobText (jobTree bytes) (jobCaps bytes) (jobProposals bytes)
+reportOf accepted bytes = jobText (jobTree One bytes) (jobCaps One bytes) (jobProposals One bytes)
 reportOf (refused number place) bytes = refusedLine number place
 
+-- the report reads version 1
 unfoldable pub reportText : List ℕ → List ℕ
-reportText bytes = reportOf (jobCheck bytes) bytes
+reportText bytes = reportOf (jobCheck One bytes) bytes

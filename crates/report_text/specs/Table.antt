@@ -8,12 +8,18 @@ use Rattle.game.specs.Tree.{Tree}
 use Rattle.text.specs.Ascii.{ascii}
 use Rattle.answers.specs.Table.{T, W}
 use Rattle.job_bytes.specs.JobBytes.{memberRow, trailer}
+use Rattle.job_bytes.specs.declared.version.Version.the-variants.{One}
 use Rattle.job.specs.Table.{T-arcs, T-job, fewer-job}
 use Rattle.report_text.specs.Report.{treeText, reportText}
 
 -- T with the proposal 8 4 5, whose total is off and which has a group besides
 abbrev pub off-job : List ℕ
-off-job = T-arcs ++ memberRow 100 (pos 8) ++ memberRow 100 (pos 4) ++ memberRow 100 (pos 5) ++ trailer 0 32 4 3 1
+off-job =
+    T-arcs
+    ++ memberRow One 100 (pos 8) 0
+    ++ memberRow One 100 (pos 4) 0
+    ++ memberRow One 100 (pos 5) 0
+    ++ trailer 0 32 4 3 1
 
 -- the lines on the tree and the proposal, which are those of the audit behind the first
 abbrev pub Audited : Tree → List ℤ → String → Type 0

@@ -3,9 +3,7 @@
 A case is a tuple: the command, then its fields, each a tree, a state, a list, a number or bytes.
 """
 from rules import (
-    MOST_ARCS,
     Refusal,
-    Tree,
     WORDS,
     arc_needs,
     arc_users,
@@ -25,18 +23,17 @@ from rules import (
     member_vertices,
     ones,
     overpayment,
+    refusal_of,
     whole_cost,
     words_of,
 )
 from by_arc import by_arc_split
-from job import read_job
+from job_entries import JOB_LINES
 from level import level_split
 from margin import margin_split
-from states import State, make_state, refusal_of
+from shown import UNTOUCHED, EachByte, shown, trimmed
+from states import make_state
 from steps import first_state, outcomes
-from writer import job_bytes, job_length, write_job
-
-UNTOUCHED = 9
 
 
 def answer_check(tree):
@@ -162,70 +159,6 @@ ENTRIES = {
 WRITING = {"members", "needs", "level", "byarc", "deadends", "capsums", "margin"}
 
 
-def shown(field):
-    if isinstance(field, int):
-        return str(field)
-    if isinstance(field, bytes):
-        return field.hex() or "-"
-    if isinstance(field, Tree):
-        return " ".join(map(shown, field))
-    if isinstance(field, State):
-        return " ".join([str(field.arcs), *map(trimmed, field.lists), str(field.committed)])
-    return ",".join(map(str, field)) or "-"
-
-
-def trimmed(entries):
-    """A list as shown, without the zeros at its end."""
-    end = len(entries)
-    while end > 0 and entries[end - 1] == 0:
-        end -= 1
-    return shown(entries[:end])
-
-
-def answer_job(lengths, data):
-    """The front of each list, or the refusal, and whether the other entries are as they were."""
-    lists = [[UNTOUCHED] * length for length in lengths]
-    fronts = [0] * len(lists)
-    try:
-        arcs, members, note = read_job(data, *lists)
-    except Refusal as refusal:
-        line = str(refusal)
-    else:
-        fronts = [arcs, arcs, members, members]
-        values = [entries[:n] for entries, n in zip(lists, fronts)]
-        assert job_bytes(data[:note], *values) == data
-        line = ": ".join([f"read {arcs} {members} {note}", *map(shown, values)])
-    assert all(entries[n:] == [UNTOUCHED] * (len(entries) - n) for entries, n in zip(lists, fronts))
-    return f"{line}; others kept"
-
-
-def read_back(data):
-    """The note and the lists of a job that is accepted."""
-    lists = [[UNTOUCHED] * MOST_ARCS for _ in range(4)]
-    arcs, members, note = read_job(data, *lists)
-    return [data[:note], *(entries[:n] for entries, n in zip(lists, [arcs, arcs, members, members]))]
-
-
-def answer_write(*fields):
-    """The answers of both entries, the job where it is written, and whether the other bytes are as they were."""
-    *values, length = fields
-    out = bytearray([UNTOUCHED] * length)
-    try:
-        asked = f"length {job_length(*values)}"
-    except Refusal as refusal:
-        asked = str(refusal)
-    try:
-        end = write_job(*values, out)
-    except Refusal as refusal:
-        end, line = 0, str(refusal)
-    else:
-        written = bytes(out[:end])
-        assert read_back(written) == values
-        line = f"written {end}: {shown(written)}"
-    assert out[end:] == bytearray([UNTOUCHED] * (length - end))
-    return f"{asked}, {line}; others kept"
-
-
 def answer_step(done):
     """The answer of a step, the quote that it gives, and the shares beside it."""
     quote = f" quote {done.quote}" if done.quote else ""
@@ -248,11 +181,23 @@ def answer_state(tree, steps):
 
 
 # the commands that print more than an answer and a list
-WHOLE_LINES = {"job": answer_job, "write": answer_write, "state": answer_state, "events": answer_steps}
+WHOLE_LINES = {"state": answer_state, "events": answer_steps, **JOB_LINES}
+
+
+def each_byte(case):
+    """The cases that a case stands for: one for each byte, or the case itself."""
+    for place, field in enumerate(case):
+        if isinstance(field, EachByte):
+            return [(*case[:place], data, *case[place + 1 :]) for data in field.all()]
+    return [case]
 
 
 def answer(case):
-    """The line that the program must print."""
+    """The line that the program must print, or all lines of a case that stands for several."""
+    return "\n".join(map(line_of, each_byte(case)))
+
+
+def line_of(case):
     command, *fields = case
     if command in WHOLE_LINES:
         return WHOLE_LINES[command](*fields)

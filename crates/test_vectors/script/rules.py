@@ -15,6 +15,15 @@ class Refusal(Exception):
         self.shortfall = shortfall
 
 
+def refusal_of(call, *fields):
+    """What a check finds or a call is refused, or None."""
+    try:
+        call(*fields)
+    except Refusal as refusal:
+        return str(refusal)
+    return None
+
+
 class Tree(NamedTuple):
     """The lists as handed in; entry 0 belongs to arc 1 and to vertex 1."""
 

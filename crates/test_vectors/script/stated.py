@@ -4,9 +4,8 @@ from networks import T, T_SPARE, U, W, chain
 from trees import LARGE, proposed
 from floors import STATED_FLOORS
 from margins import STATED_MARGINS
-from jobs import T_ARCS, job, plain, read
-from writes import T_VALUES
 from stated_events import STATED_EVENTS
+from stated_jobs import STATED_JOBS
 from stated_quotes import STATED_QUOTES
 
 
@@ -19,13 +18,6 @@ def judged(tree, proposal, difference, found, first=0):
     total, search = proposed(tree, proposal)
     return [(total, f"total {difference}"), (search, beside_words(found, first))]
 
-
-# the job of T
-T_BYTES = bytes.fromhex(
-    "0000000006000000 0100000001000000 0100000005000000 0000000004000000"
-    "6400000000000000 0800000000000000 6400000000000000 0400000000000000 6400000000000000 0400000000000000"
-    "00000000 20000000 0400 0300 0100 54 4A"
-)
 
 STATED = [
     (("members", T, 3), "members 3: 2,3,4"),
@@ -67,25 +59,7 @@ STATED = [
     (("check", T._replace(marks=[0, 1, 2, 1])), "refused 16 at 3"),
     (("check", T._replace(marks=[1, 1, 1, 1])), "refused 17 at 1"),
     (("check", T._replace(marks=[0, 0, 0, 0])), "refused 18 at 0"),
-    (read(T_BYTES), "read 4 3 0: 0,1,1,0: 6,1,5,4: 100,100,100: 8,4,4; others kept"),
-    (read(plain([0], [7], note=b"ab")), "read 1 1 2: 0: 7: 100: -1; others kept"),
-    (read(T_BYTES, [1023, 1023, 1023, 1022]), "refused 10 at 0; others kept"),
-    (read(b""), "refused 11 at 0; others kept"),
-    (read(T_BYTES[:-1] + b"j"), "refused 12 at 0; others kept"),
-    (read(b"x" + T_BYTES), "refused 13 at 0; others kept"),
-    (read(plain(*T_ARCS, fillers={3: 256})), "refused 14 at 3; others kept"),
-    (read(job([0] * 1024, [1] * 1024, [], [])), "refused 1 at 0; others kept"),
-    (read(job([0] * 1024, [1] * 1024, [], [], fillers={1024: 1})), "refused 14 at 1024; others kept"),
-    (read(job([], [], [], [])), "refused 1 at 0; others kept"),
-    (read(plain([0, 2], [LARGE, 1])), "refused 4 at 1; others kept"),
-    (read(plain([1], [LARGE])), "refused 3 at 1; others kept"),
-    (read(job(*T_ARCS, [9, 9], [9, 9])), "refused 15 at 0; others kept"),
-    (read(job(*T_ARCS, [9, 9, 2**64 - 1], [-(2**63), 9, 9])), "refused 7 at 2; others kept"),
-    (read(job(*T_ARCS, [9, 9, 9], [9, -(2**63), 2**63 - 1])), "refused 7 at 1; others kept"),
-    (("write", b"", *T_VALUES, 96), f"length 96, written 96: {T_BYTES.hex()}; others kept"),
-    (("write", b"", *T_VALUES, 95), "length 96, refused 20 at 0; others kept"),
-    (("write", bytes(256), *T_VALUES, 352), "refused 19 at 0, refused 19 at 0; others kept"),
-    (("write", b"", [0, 2], [LARGE, 1], [], [], 0), "refused 4 at 1, refused 4 at 1; others kept"),
+    *STATED_JOBS,
     *STATED_FLOORS,
     *STATED_MARGINS,
     *STATED_EVENTS,

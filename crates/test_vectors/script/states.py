@@ -1,7 +1,7 @@
 """States, events and quotes (specification, §11), with no call of the engine."""
 from typing import NamedTuple
 
-from rules import MOST_ARCS, MOST_COST, Refusal, Tree, check_tree, member_count
+from rules import MOST_ARCS, MOST_COST, Refusal, Tree, check_tree, member_count, refusal_of
 from by_arc import by_arc_split
 
 ARRIVE, LEAVE, NEW_COST = "+", "-", "="
@@ -115,15 +115,6 @@ def check_reached(tree, vertex):
         raise Refusal(18)
     if tree.costs[vertex - 1] > MOST_COST:
         raise Refusal(4, vertex)
-
-
-def refusal_of(call, *fields):
-    """What a check finds or a call is refused, or None."""
-    try:
-        call(*fields)
-    except Refusal as refusal:
-        return str(refusal)
-    return None
 
 
 def tree_reached(state, event):

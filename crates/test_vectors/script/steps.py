@@ -1,7 +1,7 @@
 """Steps on a state, askings and commits, and what §11 says of them in whatever order."""
 from typing import NamedTuple
 
-from rules import Refusal
+from rules import Refusal, refusal_of
 from states import (
     ARRIVE,
     LEAVE,
@@ -14,7 +14,6 @@ from states import (
     ask,
     commit,
     make_state,
-    refusal_of,
     state_made,
     state_tree,
 )

@@ -3,8 +3,19 @@ import random
 
 from rules import MOST_ARCS, MOST_CAP, MOST_COST, MOST_SHARE, dead_end_marks
 from entries import answer
-from job import MOST_BYTES, MOST_NOTE, TRAILER
-from jobs import BEYOND_CAP, BEYOND_SHARE, GREATEST, LARGE, LEAST, NOTES, T_ARCS, T_JOB, job
+from job import FIRST, MOST_NOTE, TRAILER, first_job
+from job_cases import (
+    BEYOND_CAP,
+    BEYOND_SHARE,
+    GREATEST,
+    LARGE,
+    LEAST,
+    MOST_OUTPUT,
+    NOTES,
+    T_ARCS,
+    one,
+    with_entry,
+)
 from marks import lists
 from networks import chain, comb, random_caps, random_proposal, random_tree, star
 from trees import FAULTY_ARCS, damaged
@@ -17,14 +28,11 @@ ONE_VALUES = [0], [7], [100], [-1]
 # the longest note, one byte more, and the longest that a case may have
 LONG_NOTES = [bytes(MOST_NOTE), bytes(MOST_NOTE + 1), b"\xff" * 300]
 
-# the longest output that a case may have
-MOST_OUTPUT = 25_000
-
 
 def write(values, note=b"", more=0):
     """A case whose output is longer than the job by `more` bytes, or shorter where that is negative."""
-    data = job(*values, note=note)
-    assert job_bytes(note, *values) == data
+    data = one.job(*values, note=note)
+    assert job_bytes(first_job(note, *values), FIRST) == data
     return "write", note, *values, len(data) + more
 
 
@@ -32,11 +40,6 @@ def numbered(parents):
     """Values on these arcs: costs and caps from 0 up, shares from 0 down."""
     count = sum(dead_end_marks(parents))
     return parents, list(range(len(parents))), list(range(count)), list(range(0, -count, -1))
-
-
-def with_entry(entries, place, entry):
-    """The list with another entry at a place."""
-    return [*entries[:place], entry, *entries[place + 1 :]]
 
 
 def small_writes():
@@ -56,7 +59,7 @@ def write_notes():
         for note in NOTES + LONG_NOTES:
             yield write(values, note)
     # a note that looks like a job, like a trailer, and like the output before the call
-    for note in (T_JOB, T_JOB[-TRAILER:], b"\x09" * 20):
+    for note in (one.t_job, one.t_job[-TRAILER:], b"\x09" * 20):
         yield write(T_VALUES, note)
 
 
@@ -97,10 +100,10 @@ def large_writes():
     caps = [MOST_CAP - j for j in range(MOST_ARCS)]
     proposals = [(-1) ** j * (MOST_SHARE - j) for j in range(MOST_ARCS)]
     longest = star(MOST_ARCS), chain(MOST_ARCS), caps, proposals
-    assert write(longest, note)[-1] == MOST_BYTES
+    assert write(longest, note)[-1] == FIRST.most_bytes
     yield write(longest, note)
     yield write(longest, note, -1)
-    yield write(numbered(star(MOST_ARCS)), note, MOST_OUTPUT - MOST_BYTES)
+    yield write(numbered(star(MOST_ARCS)), note, MOST_OUTPUT - FIRST.most_bytes)
     yield write((chain(MOST_ARCS), [MOST_COST - arc for arc in range(MOST_ARCS)], [MOST_CAP], [-MOST_SHARE]))
     yield write(numbered(chain(MOST_ARCS)), note)
     yield write(numbered(comb(MOST_ARCS)), b"comb")
@@ -145,7 +148,7 @@ ORDER = [
 def changed(changes):
     """T's case with these changes, the last first: what shortens or lengthens a list comes after what is in it."""
     parents, costs, caps, proposals = T_VALUES
-    fields = dict(note=b"", parents=parents, costs=costs, caps=caps, proposals=proposals, length=len(T_JOB))
+    fields = dict(note=b"", parents=parents, costs=costs, caps=caps, proposals=proposals, length=len(one.t_job))
     for field, change in reversed(changes):
         fields[field] = change(fields[field])
     return "write", *fields.values()
@@ -166,7 +169,7 @@ def from_fault(first):
 def write_order():
     for first, (number, place, _, _) in enumerate(ORDER):
         refused = f"refused {number} at {place}"
-        asked = f"length {len(T_JOB)}" if number == 20 else refused
+        asked = f"length {len(one.t_job)}" if number == 20 else refused
         for changes in from_fault(first):
             case = changed(changes)
             assert answer(case) == f"{asked}, {refused}; others kept", case

@@ -1,10 +1,12 @@
 // One case: a command, a tree, and for some commands up to three fields more; or parents, costs and a length; or a
-// number of members and a list with an entry each; or a job; or the note and the lists of a job and a length; or a
-// state and steps.
+// number of members and a list with an entry each; or a job, and for some commands a length; or the note and the lists
+// of a job and a length; or a state and steps.
 use crate::command;
 use crate::command::Command;
+use crate::convert_case;
 use crate::event_case;
 use crate::job_case;
+use crate::job2_case;
 use crate::level_case;
 use crate::print;
 use crate::state_case;
@@ -263,7 +265,10 @@ fn answer(line: &[u8]) {
         Command::Shares => shares(line),
         Command::Caps => caps(line),
         Command::Job => job_case::run(line),
+        Command::JobTwo => job2_case::run(line),
         Command::Write => write_case::run(line),
+        Command::ToTwo => convert_case::run(c, line),
+        Command::ToOne => convert_case::run(c, line),
         Command::Events => event_case::run(line),
         _ => with_tree(c, line),
     }

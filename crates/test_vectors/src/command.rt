@@ -19,7 +19,10 @@ pub enum Command {
     CapSums,
     Margin,
     Job,
+    JobTwo,
     Write,
+    ToTwo,
+    ToOne,
     State,
     Events,
     Unknown,
@@ -30,8 +33,8 @@ pub fn named(name: &[u8]) -> Command
 {
     match field::find(
         b"check count members needs group total search shares level caps byarc deadends capsums margin \
-        job write state events",
-        18,
+        job job2 write to2 to1 state events",
+        21,
         name,
     ) {
         0 => Command::Check,
@@ -49,9 +52,12 @@ pub fn named(name: &[u8]) -> Command
         12 => Command::CapSums,
         13 => Command::Margin,
         14 => Command::Job,
-        15 => Command::Write,
-        16 => Command::State,
-        17 => Command::Events,
+        15 => Command::JobTwo,
+        16 => Command::Write,
+        17 => Command::ToTwo,
+        18 => Command::ToOne,
+        19 => Command::State,
+        20 => Command::Events,
         _ => Command::Unknown,
     }
 }
@@ -76,7 +82,10 @@ pub fn fields(c: Command) -> usize
         Command::CapSums => 6,
         Command::Margin => 6,
         Command::Job => 3,
+        Command::JobTwo => 3,
         Command::Write => 7,
+        Command::ToTwo => 3,
+        Command::ToOne => 3,
         Command::State => 5,
         Command::Events => 8,
         Command::Unknown => 0,

@@ -1,48 +1,20 @@
-// The cases of the job reader: the lengths of the four lists that it fills, then the job's bytes. Each entry is 9
+// The cases of the version 1 reader: the lengths of the four lists that it fills, then the job's bytes. Each entry is 9
 // before the call.
+use crate::job_lists;
+use crate::job_lists::MOST_BYTES;
 use crate::print;
-use crate::print::front;
 use crate::print::others;
 use job::JobRead;
 use test_lines::field;
 use test_lines::hex;
 use test_lines::list;
 use test_lines::list::MOST;
-use test_lines::print::labelled;
-use test_lines::print::list_signed;
-use test_lines::print::list16;
-use test_lines::print::list32;
-use test_lines::rest;
 ghost use Prim.Native.Nat.{_≤_};
 ghost use lib.ListN.{length};
 ghost use Rattle.test_lines.specs.Lists.{MOST};
 
 // The lists that the reader fills.
 const LISTS: usize = 4;
-
-// The most bytes of a job or an output in a case: more than a job may have.
-pub const MOST_BYTES: usize = 25000;
-
-fn fronts(
-    arcs: usize,
-    members: usize,
-    parents: &[u16],
-    costs: &[u32],
-    caps: &[u64],
-    proposals: &[i64],
-)
-    requires { ⌜ length (now parents) ≤ MOST ⌝ }
-    requires { ⌜ length (now costs) ≤ MOST ⌝ }
-{
-    let p = front(arcs, parents.len());
-    let c = front(arcs, costs.len());
-    let k = front(members, caps.len());
-    let s = front(members, proposals.len());
-    list16(&parents[0..p]);
-    list32(&costs[0..c]);
-    test_lines::print::list(&caps[0..k]);
-    list_signed(&proposals[0..s]);
-}
 
 // Whether all entries past the front are as before the call.
 fn kept(
@@ -56,16 +28,10 @@ fn kept(
     requires { ⌜ length (now parents) ≤ MOST ⌝ }
     requires { ⌜ length (now costs) ≤ MOST ⌝ }
 {
-    if !rest::is16(parents, arcs, 9) {
+    if !job_lists::arcs_kept(arcs, parents, costs) {
         return false;
     }
-    if !rest::is32(costs, arcs, 9) {
-        return false;
-    }
-    if !rest::is(caps, members, 9) {
-        return false;
-    }
-    rest::is_signed(proposals, members, 9)
+    job_lists::members_kept(members, caps, proposals)
 }
 
 fn job_read(answer: JobRead, parents: &[u16], costs: &[u32], caps: &[u64], proposals: &[i64])
@@ -78,10 +44,9 @@ fn job_read(answer: JobRead, parents: &[u16], costs: &[u32], caps: &[u64], propo
             members,
             note,
         } => {
-            labelled(b"read ", arcs as u64);
-            labelled(b" ", members as u64);
-            labelled(b" ", note as u64);
-            fronts(arcs, members, parents, costs, caps, proposals);
+            job_lists::counts(arcs, members, note);
+            job_lists::arc_fronts(arcs, parents, costs);
+            job_lists::member_fronts(members, caps, proposals);
             others(kept(arcs, members, parents, costs, caps, proposals));
         }
         JobRead::Refused(r) => {

@@ -1,5 +1,5 @@
 // The lines of standard input, whose bytes come in parts: each line is run as a case where it ends.
-use crate::case;
+use crate::each_byte;
 use libc::STDIN_FILENO;
 ghost use Prim.Native.Nat.{_≤_};
 ghost use lib.ListN.{length};
@@ -10,7 +10,7 @@ fn take_byte(byte: u8, line: &mut [u8], n: usize) -> usize
     ensures { λ r. ⌜ r ≤ length (now (line .entry)) ⌝ }
 {
     if byte == b'\n' {
-        case::run(&line[0..n]);
+        each_byte::run(&mut line[0..n]);
         return 0;
     }
     if line.len() <= n {
@@ -35,9 +35,9 @@ fn take_part(part: &[u8], line: &mut [u8], start: usize) -> usize
 }
 
 // A last line with no line end after it.
-fn run_rest(line: &[u8]) {
+fn run_rest(line: &mut [u8]) {
     if 0 < line.len() {
-        case::run(line);
+        each_byte::run(line);
     }
 }
 
@@ -48,7 +48,7 @@ pub fn run_all(part: &mut [u8], line: &mut [u8]) {
     while 0 < turns {
         let got = io::read_full(STDIN_FILENO, part);
         if got == 0 {
-            return run_rest(&line[0..n]);
+            return run_rest(&mut line[0..n]);
         }
         n = take_part(&part[..got], line, n);
         turns -= 1;

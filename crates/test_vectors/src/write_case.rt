@@ -1,6 +1,6 @@
 // The cases of the job writer: the note's bytes, the four lists, then the length of the output. Each byte of it is 9
 // before the call.
-use crate::job_case::MOST_BYTES;
+use crate::job_lists::MOST_BYTES;
 use crate::print;
 use crate::print::front;
 use crate::print::others;
@@ -17,8 +17,9 @@ use test_lines::rest;
 // The most bytes of a note in a case: more than a job's may have.
 const MOST_NOTE: usize = 300;
 
-// The job's bytes, and whether the others are as before the call.
-fn written(answer: JobLength, out: &[u8]) {
+// The answer, the job's bytes, and whether the others are as before the call.
+pub fn written(answer: JobLength, out: &[u8]) {
+    print::job_length(b"written ", answer);
     match answer {
         JobLength::Length(n) => {
             let k = front(n, out.len());
@@ -42,7 +43,6 @@ fn write(
     let answer = job::write_job(note, parents, costs, caps, proposals, out);
     print::job_length(b"length ", length);
     text(b", ");
-    print::job_length(b"written ", answer);
     written(answer, out);
 }
 

@@ -18,7 +18,7 @@ pub struct JobLists {
     pub proposals: Vec<i64>,
 }
 
-fn front<T: Clone>(list: &mut [T], rows: &[T]) {
+pub fn front<T: Clone>(list: &mut [T], rows: &[T]) {
     list[..rows.len()].clone_from_slice(rows);
 }
 
@@ -43,7 +43,7 @@ impl JobLists {
         }
     }
 
-    fn lengths(&self) -> [usize; 4] {
+    pub fn lengths(&self) -> [usize; 4] {
         [
             self.parents.len(),
             self.costs.len(),
@@ -53,7 +53,7 @@ impl JobLists {
     }
 
     /// Puts the job's rows at the front of the lists.
-    fn fill(&mut self, job: &Job) {
+    pub fn fill(&mut self, job: &Job) {
         front(&mut self.parents, &job.parents);
         front(&mut self.costs, &job.costs);
         front(&mut self.caps, &job.caps);
@@ -62,15 +62,15 @@ impl JobLists {
 }
 
 /// The same lists with canaries around them.
-struct LentLists {
-    parents: Lent<u16>,
-    costs: Lent<u32>,
-    caps: Lent<u64>,
-    proposals: Lent<i64>,
+pub struct LentLists {
+    pub parents: Lent<u16>,
+    pub costs: Lent<u32>,
+    pub caps: Lent<u64>,
+    pub proposals: Lent<i64>,
 }
 
 impl LentLists {
-    fn new(lists: &JobLists) -> LentLists {
+    pub fn new(lists: &JobLists) -> LentLists {
         LentLists {
             parents: Lent::new(&lists.parents),
             costs: Lent::new(&lists.costs),
@@ -110,9 +110,25 @@ impl LentLists {
         )
     }
 
-    fn hold(&self, lists: &JobLists) -> bool {
+    pub fn hold(&self, lists: &JobLists) -> bool {
         let arcs = self.parents.holds(&lists.parents) && self.costs.holds(&lists.costs);
         arcs && self.caps.holds(&lists.caps) && self.proposals.holds(&lists.proposals)
+    }
+}
+
+pub fn job_read(answer: Result<&Job, &Refusal>) -> ZilqodurJob {
+    match answer {
+        Ok(job) => ZilqodurJob {
+            arcs: job.parents.len(),
+            members: job.caps.len(),
+            note: job.note.len(),
+            ..Default::default()
+        },
+        Err(r) => ZilqodurJob {
+            refusal: r.number,
+            place: r.place,
+            ..Default::default()
+        },
     }
 }
 
@@ -131,22 +147,8 @@ fn compare_read(
 ) {
     let (lent, mut lent_lists) = (Lent::new(bytes), LentLists::new(&lists));
     let given = lent_lists.read(lent.list());
-    let expected = match answer {
-        Ok(job) => {
-            lists.fill(job);
-            ZilqodurJob {
-                arcs: job.parents.len(),
-                members: job.caps.len(),
-                note: job.note.len(),
-                ..Default::default()
-            }
-        }
-        Err(r) => ZilqodurJob {
-            refusal: r.number,
-            place: r.place,
-            ..Default::default()
-        },
-    };
+    answer.iter().for_each(|job| lists.fill(job));
+    let expected = job_read(answer);
     let note = answer.map_or(true, |job| bytes.starts_with(&job.note));
     let lists = note && lent.holds(bytes) && lent_lists.hold(&lists);
     tally.case("read_job", expected.refusal, [given, expected], lists);
@@ -163,7 +165,7 @@ fn write_again(tally: &mut Tally, bytes: &[u8], job: &Job) {
     tally.case("job written again", 0, [given, expected], out == bytes);
 }
 
-fn job_length(answer: Answer<usize>) -> ZilqodurJobLength {
+pub fn job_length(answer: Answer<usize>) -> ZilqodurJobLength {
     match answer {
         Ok(length) => ZilqodurJobLength {
             length,

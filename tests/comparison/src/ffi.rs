@@ -337,6 +337,34 @@ unsafe extern "C" {
         out: *mut u8,
         out_count: usize,
     ) -> ZilqodurJobLength;
+    fn zilqodur_read_job2(
+        bytes: *const u8,
+        bytes_count: usize,
+        parents: *mut u16,
+        parents_count: usize,
+        costs: *mut u32,
+        costs_count: usize,
+        marks: *mut u16,
+        marks_count: usize,
+        caps: *mut u64,
+        caps_count: usize,
+        proposals: *mut i64,
+        proposals_count: usize,
+        floors: *mut u64,
+        floors_count: usize,
+    ) -> ZilqodurJob;
+    fn zilqodur_job_to_2(
+        bytes: *const u8,
+        bytes_count: usize,
+        out: *mut u8,
+        out_count: usize,
+    ) -> ZilqodurJobLength;
+    fn zilqodur_job_to_1(
+        bytes: *const u8,
+        bytes_count: usize,
+        out: *mut u8,
+        out_count: usize,
+    ) -> ZilqodurJobLength;
     fn zilqodur_report(
         bytes: *const u8,
         bytes_count: usize,
@@ -669,6 +697,43 @@ pub fn write_job(
             out.len(),
         )
     }
+}
+
+pub fn read_job2(
+    bytes: &[u8],
+    parents: &mut [u16],
+    costs: &mut [u32],
+    marks: &mut [u16],
+    caps: &mut [u64],
+    proposals: &mut [i64],
+    floors: &mut [u64],
+) -> ZilqodurJob {
+    unsafe {
+        zilqodur_read_job2(
+            bytes.as_ptr(),
+            bytes.len(),
+            parents.as_mut_ptr(),
+            parents.len(),
+            costs.as_mut_ptr(),
+            costs.len(),
+            marks.as_mut_ptr(),
+            marks.len(),
+            caps.as_mut_ptr(),
+            caps.len(),
+            proposals.as_mut_ptr(),
+            proposals.len(),
+            floors.as_mut_ptr(),
+            floors.len(),
+        )
+    }
+}
+
+pub fn job_to_2(bytes: &[u8], out: &mut [u8]) -> ZilqodurJobLength {
+    unsafe { zilqodur_job_to_2(bytes.as_ptr(), bytes.len(), out.as_mut_ptr(), out.len()) }
+}
+
+pub fn job_to_1(bytes: &[u8], out: &mut [u8]) -> ZilqodurJobLength {
+    unsafe { zilqodur_job_to_1(bytes.as_ptr(), bytes.len(), out.as_mut_ptr(), out.len()) }
 }
 
 pub fn report(bytes: &[u8], out: &mut [u8; REPORT_ROOM]) -> ZilqodurReport {

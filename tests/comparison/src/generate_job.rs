@@ -1,16 +1,21 @@
 //! Pseudo-random job bytes: valid, with every kind of damage, and arbitrary.
 
 use crate::generate;
-use crate::job::{Job, LONGEST, NOTE};
+use crate::job::{Job, Version, NOTE};
 use crate::reference::{ARCS, COST};
 use crate::rng::Rng;
 
+/// A note, of any length that it may have.
+pub fn note(rng: &mut Rng) -> Vec<u8> {
+    let any = rng.below(256);
+    let length = rng.pick(&[0, 1, 17, NOTE, any]);
+    (0..length).map(|_| rng.next() as u8).collect()
+}
+
 /// A valid job on the tree with every dead end marked.
 pub fn valid(rng: &mut Rng, parents: &[u16], costs: &[u32]) -> Job {
-    let any = rng.below(256);
-    let note = rng.pick(&[0, 1, 17, NOTE, any]);
     let mut job = Job {
-        note: (0..note).map(|_| rng.next() as u8).collect(),
+        note: note(rng),
         parents: parents.to_vec(),
         fillers: vec![0; parents.len()],
         costs: costs.to_vec(),
@@ -65,19 +70,19 @@ pub fn damage_lists(rng: &mut Rng, job: &mut Job) {
     }
 }
 
-fn resize_arcs(job: &mut Job, arcs: usize) {
+pub fn resize_arcs(job: &mut Job, arcs: usize) {
     job.parents.resize(arcs, 0);
     job.fillers.resize(arcs, 0);
     job.costs.resize(arcs, 1);
 }
 
-fn resize_members(job: &mut Job, members: usize) {
+pub fn resize_members(job: &mut Job, members: usize) {
     job.caps.resize(members, 5);
     job.proposals.resize(members, 5);
 }
 
-/// Damages the bytes of a job, most often its trailer.
-pub fn damage_bytes(rng: &mut Rng, bytes: &mut Vec<u8>) {
+/// Damages the bytes of a job of the version, most often its trailer.
+pub fn damage_bytes(rng: &mut Rng, bytes: &mut Vec<u8>, version: &Version) {
     if bytes.len() < 16 {
         bytes.push(0x4A);
         return;
@@ -87,8 +92,8 @@ pub fn damage_bytes(rng: &mut Rng, bytes: &mut Vec<u8>) {
         0 => bytes.truncate(rng.pick(&[0, 1, 15, 16, 17, end, end + 15])),
         1 => bytes.extend(vec![0; 1 + rng.below(20)]),
         2 => {
-            let lengths = [LONGEST, LONGEST + 1, LONGEST + 16, 70_000];
-            lengthen(bytes, rng.pick(&lengths));
+            let most = version.longest;
+            lengthen(bytes, rng.pick(&[most, most + 1, most + 16, 70_000]));
         }
         3 => bytes[end + rng.below(16)] ^= 1 << rng.below(8),
         4 => bytes[end + rng.below(16)] = rng.next() as u8,
@@ -102,7 +107,8 @@ pub fn damage_bytes(rng: &mut Rng, bytes: &mut Vec<u8>) {
             add(bytes, end, 4, by);
             if rng.one_in(2) {
                 add(bytes, end + 4, 4, by);
-                add(bytes, end + 10, 2, (by / 16).wrapping_neg());
+                let rows = by / version.member_row as u64;
+                add(bytes, end + 10, 2, rows.wrapping_neg());
             }
         }
         10 => {
@@ -131,15 +137,15 @@ fn lengthen(bytes: &mut Vec<u8>, length: usize) {
     bytes.extend(trailer);
 }
 
-/// Arbitrary bytes, half of them with the right version and closing bytes.
-pub fn arbitrary(rng: &mut Rng) -> Vec<u8> {
-    let most = rng.pick(&[20, 64, 300, LONGEST]);
+/// Arbitrary bytes, half of them with the version and the right closing bytes.
+pub fn arbitrary(rng: &mut Rng, version: &Version) -> Vec<u8> {
+    let most = rng.pick(&[20, 64, 300, version.longest]);
     let length = rng.below(most + 1);
     let mut bytes: Vec<u8> = (0..length).map(|_| rng.next() as u8).collect();
     if length >= 16 && rng.one_in(2) {
-        bytes[length - 4..].copy_from_slice(&[1, 0, 0x54, 0x4A]);
+        bytes[length - 4..].copy_from_slice(&[version.number as u8, 0, 0x54, 0x4A]);
         if rng.one_in(2) {
-            fit(rng, &mut bytes);
+            fit(rng, &mut bytes, version);
         }
     }
     bytes
@@ -147,25 +153,25 @@ pub fn arbitrary(rng: &mut Rng) -> Vec<u8> {
 
 /// Sets the trailer so that rows of arbitrary bytes meet and end exactly
 /// where the length allows it.
-fn fit(rng: &mut Rng, bytes: &mut [u8]) {
+fn fit(rng: &mut Rng, bytes: &mut [u8], version: &Version) {
     let end = bytes.len() - 16;
     let note = (end % 8 + 8 * rng.below(8)).min(end);
     let arcs = rng.below((end - note) / 8 + 1);
-    let members = (end - note - 8 * arcs) / 16;
+    let members = (end - note - 8 * arcs) / version.member_row;
     bytes[end..end + 4].copy_from_slice(&(note as u32).to_le_bytes());
     let rows = (note + 8 * arcs) as u32;
     bytes[end + 4..end + 8].copy_from_slice(&rows.to_le_bytes());
     bytes[end + 8..end + 10].copy_from_slice(&(arcs as u16).to_le_bytes());
     bytes[end + 10..end + 12].copy_from_slice(&(members as u16).to_le_bytes());
-    // Fillers of zero, so that the reader goes on to the tree.
+    // Fillers, or marks, of zero, so that the reader goes on to the tree.
     for k in 0..arcs {
         bytes[note + 8 * k + 2..note + 8 * k + 4].fill(0);
     }
 }
 
-/// Lengths of the four lent lists, most often long enough.
-pub fn lent_lengths(rng: &mut Rng) -> [usize; 4] {
-    let mut lengths = [ARCS; 4];
+/// Lengths of the lent lists, most often long enough.
+pub fn lent_lengths<const LISTS: usize>(rng: &mut Rng) -> [usize; LISTS] {
+    let mut lengths = [ARCS; LISTS];
     for length in &mut lengths {
         if rng.one_in(80) {
             *length = rng.pick(&[0, 1, ARCS - 1]);

@@ -1,15 +1,35 @@
-//! The job bytes (specification, §8): the reader, the writer, and rows of any content written out.
+//! The job bytes (specification, §8): the form of both versions, the reader and
+//! the writer of version 1, and rows of any content written out.
 
 use crate::reference::{
     check_caps, check_proposal, dead_ends, refuse, tree_faults, Answer, Refusal, Tree, ARCS,
 };
 
-pub const LONGEST: usize = 24_823;
+/// What sets the versions of jobs apart.
+pub struct Version {
+    pub number: u16,
+    /// The most bytes of a job.
+    pub longest: usize,
+    /// The bytes of a member row.
+    pub member_row: usize,
+}
+
+pub const ONE: Version = Version {
+    number: 1,
+    longest: 24_823,
+    member_row: 16,
+};
+
+pub const TWO: Version = Version {
+    number: 2,
+    longest: 33_007,
+    member_row: 24,
+};
 
 /// The most bytes of a note.
 pub const NOTE: usize = 255;
 
-/// What a job holds: the note, the arc rows and the member rows.
+/// What a job of version 1 holds: the note, the arc rows and the member rows.
 #[derive(Clone)]
 pub struct Job {
     pub note: Vec<u8>,
@@ -27,6 +47,11 @@ impl Job {
     }
 
     pub fn write(&self) -> Vec<u8> {
+        self.write_as(&ONE, &[])
+    }
+
+    /// The bytes of a version. A member row ends with its floor where it has one.
+    pub fn write_as(&self, version: &Version, floors: &[u64]) -> Vec<u8> {
         let mut bytes = self.note.clone();
         for k in 0..self.parents.len() {
             bytes.extend(self.parents[k].to_le_bytes());
@@ -37,12 +62,14 @@ impl Job {
         for j in 0..self.caps.len() {
             bytes.extend(self.caps[j].to_le_bytes());
             bytes.extend(self.proposals[j].to_le_bytes());
+            bytes.extend(floors.get(j).into_iter().flat_map(|n| n.to_le_bytes()));
         }
         bytes.extend((self.note.len() as u32).to_le_bytes());
         bytes.extend((members as u32).to_le_bytes());
         bytes.extend((self.parents.len() as u16).to_le_bytes());
         bytes.extend((self.caps.len() as u16).to_le_bytes());
-        bytes.extend([1, 0, 0x54, 0x4A]);
+        bytes.extend(version.number.to_le_bytes());
+        bytes.extend([0x54, 0x4A]);
         bytes
     }
 
@@ -123,26 +150,48 @@ pub fn trailer(bytes: &[u8]) -> Layout {
     }
 }
 
-/// The size, the version and closing bytes, then where the rows stand.
-pub fn layout(bytes: &[u8]) -> Answer<Layout> {
-    if bytes.len() < 16 || bytes.len() > LONGEST {
-        return refuse(11, 0);
-    }
-    let end = bytes.len() - 16;
-    if number(bytes, end + 12, 2) != 1 || bytes[end + 14..] != [0x54, 0x4A] {
-        return refuse(12, 0);
-    }
-    let found = trailer(bytes);
-    let meet = found.arc_rows + 8 * found.arcs == found.member_rows;
-    if found.arc_rows > NOTE || !meet || found.member_rows + 16 * found.members != end {
-        return refuse(13, 0);
-    }
-    Ok(found)
+fn check_size(bytes: &[u8], version: &Version) -> Answer<()> {
+    fault(bytes.len() < 16 || bytes.len() > version.longest, 11)
 }
 
-fn rows(bytes: &[u8], at: &Layout) -> Job {
+/// The version and the closing bytes. The job has a trailer.
+fn check_signature(bytes: &[u8], version: &Version) -> Answer<()> {
+    let end = bytes.len() - 16;
+    let other = number(bytes, end + 12, 2) != u64::from(version.number);
+    fault(other || bytes[end + 14..] != [0x54, 0x4A], 12)
+}
+
+/// Where the rows stand. The job has a trailer.
+fn check_parts(bytes: &[u8], version: &Version) -> Answer<()> {
+    let found = trailer(bytes);
+    let meet = found.arc_rows + 8 * found.arcs == found.member_rows;
+    let end = found.member_rows + version.member_row * found.members + 16;
+    fault(found.arc_rows > NOTE || !meet || end != bytes.len(), 13)
+}
+
+/// The size, the version and closing bytes, then where the rows stand.
+pub fn layout(bytes: &[u8], version: &Version) -> Answer<Layout> {
+    check_size(bytes, version)?;
+    check_signature(bytes, version)?;
+    check_parts(bytes, version)?;
+    Ok(trailer(bytes))
+}
+
+/// All faults of the form, in the order of the refusals.
+pub fn form_faults(bytes: &[u8], version: &Version) -> Vec<Fault> {
+    let checks = [check_size, check_signature, check_parts];
+    let count = if bytes.len() < 16 { 1 } else { 3 };
+    let found = |check: &fn(&[u8], &Version) -> Answer<()>| check(bytes, version).err();
+    let found = checks[..count].iter().filter_map(found);
+    found.map(|fault| ("form", fault)).collect()
+}
+
+/// The rows of a job whose form is right.
+pub fn rows(bytes: &[u8], version: &Version) -> Job {
+    let at = trailer(bytes);
     let arc = |k: usize, offset, width| number(bytes, at.arc_rows + 8 * k + offset, width);
-    let member = |j: usize, offset| number(bytes, at.member_rows + 16 * j + offset, 8);
+    let row = |j: usize| at.member_rows + version.member_row * j;
+    let member = |j: usize, offset| number(bytes, row(j) + offset, 8);
     Job {
         note: bytes[..at.arc_rows].to_vec(),
         parents: (0..at.arcs).map(|k| arc(k, 0, 2) as u16).collect(),
@@ -158,8 +207,8 @@ pub fn read(bytes: &[u8], lent: [usize; 4]) -> Answer<Job> {
     if lent.iter().any(|&length| length < ARCS) {
         return refuse(10, 0);
     }
-    let layout = layout(bytes)?;
-    let job = rows(bytes, &layout);
+    let layout = layout(bytes, &ONE)?;
+    let job = rows(bytes, &ONE);
     if let Some(k) = job.fillers.iter().position(|&filler| filler != 0) {
         return refuse(14, k + 1);
     }

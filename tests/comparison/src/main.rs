@@ -1,33 +1,38 @@
 //! Compares the archive with the reference on pseudo-random inputs from fixed
 //! seeds: comparison [PERCENT OF THE ROUNDS] [CANARIES ON EACH SIDE OF A LIST]
-//! A run of all rounds fails where a case of rare.rs or rare_level.rs was never met.
+//! A run of all rounds fails where a case of rare.rs, rare_level.rs or rare_job2.rs was never met.
 
 mod brute;
 mod compare;
 mod compare_job;
+mod compare_job2;
 mod compare_level;
 mod compare_state;
 mod ffi;
 mod generate;
 mod generate_job;
+mod generate_job2;
 mod generate_level;
 mod generate_state;
 mod job;
+mod job2;
 mod lent;
 mod level;
 mod margin;
 mod rare;
+mod rare_job2;
 mod rare_level;
 mod reference;
 mod report;
 mod rng;
 mod state;
 mod table;
+mod table_job2;
 mod tally;
 
 use compare::Network;
 use compare_job::JobLists;
-use job::Job;
+use job::{Job, ONE};
 use margin::Branch;
 use reference::{Tree, ARCS};
 use rng::Rng;
@@ -61,6 +66,7 @@ fn main() {
     let mut tally = Tally::default();
     table::compare(&mut tally);
     compare_longest(&mut tally);
+    compare_job2::longest(&mut tally);
     compare_leftovers(&mut tally);
     compare_level::small_trees(&mut tally, percent);
     for phase in PHASES {
@@ -107,6 +113,7 @@ fn compare_round(tally: &mut Tally, rng: &mut Rng, arcs: usize) {
     rare::note_tree(tally, &tree);
     let state_rng = &mut Rng::new(!tally.seed);
     compare_state::round(tally, state_rng, &network);
+    compare_job2::round(tally, &mut Rng::new(tally.seed | 1 << 32), &network);
     compare_tree(tally, rng, &network, &tree);
     compare_lists(tally, rng, &network, &tree, 3);
     compare_level::round(tally, rng, &network, &tree, 3);
@@ -222,9 +229,9 @@ fn compare_jobs(tally: &mut Tally, rng: &mut Rng, valid: &Job) {
     } else {
         valid.write()
     };
-    generate_job::damage_bytes(rng, &mut bytes);
+    generate_job::damage_bytes(rng, &mut bytes, &ONE);
     compare_job(tally, rng, &bytes);
-    let bytes = generate_job::arbitrary(rng);
+    let bytes = generate_job::arbitrary(rng, &ONE);
     compare_job(tally, rng, &bytes);
 }
 

@@ -7,6 +7,7 @@
 use crate::ffi::ZilqodurEvent;
 use crate::job::Fault;
 use crate::margin::{self, Branch};
+use crate::rare_job2;
 use crate::rare_level;
 use crate::reference::{Refusal, Tree, ARCS, COST};
 use crate::state::EVENTS;
@@ -17,7 +18,7 @@ pub const TREE: [u32; 7] = [1, 2, 3, 4, 16, 17, 18];
 /// The refusals of each entry, with whether it has those of a tree too; and those
 /// under which the level split is held against its definitions.
 #[rustfmt::skip]
-const REFUSALS: [(&str, bool, &[u32]); 23] = [
+const REFUSALS: [(&str, bool, &[u32]); 28] = [
     ("check_tree", true, &[]),
     ("check_caps", false, &[6, 7]),
     ("check_proposal", false, &[6, 7]),
@@ -38,6 +39,11 @@ const REFUSALS: [(&str, bool, &[u32]); 23] = [
     ("read_job", false, &[10, 11, 12, 13, 14, 1, 3, 4, 15, 7]),
     ("job_length", false, &[1, 2, 3, 4, 6, 7, 19]),
     ("write_job", false, &[1, 2, 3, 4, 6, 7, 19, 20]),
+    ("read_job2", false, &[10, 11, 12, 13, 16, 1, 3, 4, 17, 18, 15, 7, 27]),
+    ("job_to_2", false, &[11, 12, 13, 14, 1, 3, 4, 15, 7, 20]),
+    ("job_to_1", false, &[11, 12, 13, 16, 1, 3, 4, 17, 18, 15, 7, 27, 29, 30, 20]),
+    ("job to version 2 and back", false, &[]),
+    ("job to version 1 and back", false, &[]),
     ("report", false, &[]),
     ("definition of the level split", false, &[9, 28]),
     ("definition of the level split over all lists", false, &[9, 27, 28]),
@@ -400,7 +406,7 @@ pub fn unmet(tally: &Tally) -> Vec<String> {
     let rare = rare.chain(leftovers).chain(proposals).chain(reports);
     let rare = rare.chain(of_branch).chain(branches);
     let rare = rare.chain(states).chain(events).chain(quote_meetings());
-    let rare = rare.chain(rare_level::wanted());
+    let rare = rare.chain(rare_level::wanted()).chain(rare_job2::wanted());
     unmet.extend(rare.filter(|case| !tally.met.contains(case)));
     unmet
 }

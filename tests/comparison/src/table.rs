@@ -11,6 +11,7 @@ use crate::margin;
 use crate::reference::{self, refuse, Answer, Refusal, AMOUNT};
 use crate::report;
 use crate::state::{self, Quote, State, EVENTS};
+use crate::table_job2;
 use crate::tally::Tally;
 use std::fmt::Debug;
 
@@ -27,7 +28,7 @@ fn t_with(marks: &[u16]) -> Network {
     network(&[0, 1, 1, 0], &[6, 1, 5, 4], marks)
 }
 
-fn named<T: Debug + PartialEq>(tally: &mut Tally, found: Answer<T>, expected: Answer<T>) {
+pub fn named<T: Debug + PartialEq>(tally: &mut Tally, found: Answer<T>, expected: Answer<T>) {
     let number = expected.as_ref().err().map_or(0, |r| r.number);
     tally.case("table", number, [found, expected], true);
 }
@@ -370,6 +371,7 @@ fn sample_job(tally: &mut Tally, t: Network) {
         proposals: vec![8, 4, 4],
     };
     reporting(tally, &job, "audit group 1 of 1: 0\n");
+    table_job2::compare(tally, &job);
     writing(tally, &job, 96, Ok(96));
     writing(tally, &job, 97, Ok(96));
     writing(tally, &job, 95, refuse(20, 0));

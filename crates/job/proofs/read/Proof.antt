@@ -2,20 +2,20 @@ use Prim.Native.Nat.{ℕ}
 use mathlib.Core.Path.{_≡_}
 use mathlib.Core.List.{List}
 use borrow.Author.Needs.{needs}
-use native.Mathlib.Omega.{arith}
 use denote.Ref.{now}
 use Rattle.answer_forms.specs.Answer.{accepted}
 use Rattle.answer_forms.proofs.Opened.{opened, turned-away}
+use Rattle.job_bytes.specs.declared.version.Version.the-variants.{One}
 use Rattle.job_form.proofs.FormAccepted.{form-layout}
-use Rattle.job.specs.JobCheck.{jobCheck}
+use Rattle.job_checks.specs.JobCheck.{jobCheck}
 use Rattle.job.specs.Reader.{Lent, lent, roomIn}
-use Rattle.job.proofs.Accepted.{job-accepted}
-use Rattle.job.proofs.Answered.{Fits, fits, no-room, no-job, read-job}
+use Rattle.job_checks.proofs.Accepted.{job-accepted}
+use Rattle.job.proofs.Answered.{has-room, no-room, no-job, read-job}
 use Rattle.job.proofs.read.Statement.{statement}
 use Rattle.job.proofs.read.Tie as tie
 
 abbrev start : tie.After-check-room → tie.Start
-start c = c .before .before .before .before .before
+start c = c .before .before .before .before .before .before
 
 -- the lists as they were lent
 abbrev lists : tie.After-check-room → Lent
@@ -47,58 +47,30 @@ bytes c = now (start (room c .before .before) .args .bytes)
 abbrev lent-lists : tie.After-enum-told3 → Lent
 lent-lists c = lists (room c .before .before)
 
-checked : (c : tie.After-enum-told3) → jobCheck (bytes c) ≡ accepted
+checked : (c : tie.After-enum-told3) → jobCheck One (bytes c) ≡ accepted
 checked c = opened (c .before .before .check-job .ensures) (c .enum-told3 .given .1)
 
-read-trailer-requires : tie.Need-read-trailer-requires
-read-trailer-requires c κs = form-layout _ (job-accepted _ (checked c) .form) .long
-
-fit : (c : tie.After-read-trailer) → let t = c .read-trailer .result in
-    Fits (bytes (c .before)) (lent-lists (c .before)) (t .«arc_offset») (t .«member_offset») (t .arcs) (t .members)
-fit c =
-    fits _ _ (roomy (room (c .before))) (job-accepted _ (checked (c .before))) (c .read-trailer .ensures)
-
--- from the reading of a list back to the trailer
-abbrev at-costs : tie.After-read-costs-arg → tie.After-read-trailer
-at-costs c = c .before .before .before .before .before
-
-abbrev at-caps : tie.After-read-caps-arg → tie.After-read-trailer
-at-caps c = at-costs (c .before .before .before .before)
-
-abbrev at-proposals : tie.After-read-proposals-arg → tie.After-read-trailer
-at-proposals c = at-caps (c .before .before .before .before)
-
-read-parents-requires : tie.Need-read-parents-requires
-read-parents-requires c κs = let f = fit (c .before) in (f .arcs-within, f .for-parents)
-
-read-costs-requires : tie.Need-read-costs-requires
-read-costs-requires c κs = let f = fit (at-costs c) in (f .arcs-within, f .for-costs)
-
-read-caps-requires : tie.Need-read-caps-requires
-read-caps-requires c κs =
-    let f = fit (at-caps c) in
-    (omega (arith, f .members-within), omega (arith, f .for-caps))
-
-read-proposals-requires : tie.Need-read-proposals-requires
-read-proposals-requires c κs = let f = fit (at-proposals c) in (f .members-within, f .for-proposals)
+read-contents-requires : tie.Need-read-contents-requires
+read-contents-requires c κs =
+    let told = c .before .before .before .before in
+    let ok = job-accepted One _ (checked told) in
+    (form-layout One _ (ok .form), has-room _ (lent-lists told) (roomy (room told)) ok)
 
 returns-3 : tie.Need-returns-3
 returns-3 c =
-    let proposals = c .before in
-    let caps = proposals .before .before .before .before in
-    let costs = caps .before .before .before .before in
-    let parents = costs .before .before .before .before in
-    let trailer = parents .before .before in
-    read-job _ _ (roomy (room (trailer .before))) (checked (trailer .before)) (trailer .read-trailer .ensures)
-    (parents .read-parents .ensures)
-    (costs .read-costs .ensures)
-    (caps .read-caps .ensures)
-    (proposals .read-proposals .ensures)
+    let at-read-contents = c .before .before .before .before .before .before .before in
+    let at-here = at-read-contents .before .before .before .before .before in
+    let told = at-here in
+    let read = at-read-contents .read-contents .ensures in
+    read-job _ (lent-lists told) (roomy (room told)) (checked told) (read .0) (read .1 .0) (read .1 .1 .0)
+    (read .1 .1 .1 .0)
+    (read .1 .1 .1 .1)
 
 pub read-spec : {M : Type 1} → statement M
 read-spec =
     tie.close
     (tie.spec
+    (λ c. search needs)
     (λ c κs. search needs)
     (λ c. search needs)
     (λ c. search needs)
@@ -109,11 +81,7 @@ read-spec =
     (λ c. search needs)
     (λ c κs. search needs)
     returns-2
-    read-trailer-requires
-    read-parents-requires
-    read-costs-requires
-    read-caps-requires
-    read-proposals-requires
+    read-contents-requires
     (λ c. search needs)
     (λ c. search needs)
     (λ c. search needs)

@@ -1,13 +1,20 @@
-use borrow.Author.Tests.{eq-eqb, ne-eqb}
+use Rattle.job_form.specs.Form.{fillerCheck}
 use borrow.Author.Needs.{needs}
 use Rattle.job_form.proofs.check_filler.Statement.{statement}
 use Rattle.job_form.proofs.check_filler.Tie as tie
 
+enum-told : tie.Need-enum-told
+enum-told c = search needs
+
 returns : tie.Need-returns
-returns c = simp (eq-eqb _ _ (c .if1 .taken))
+unfolding fillerCheck
+returns c = rw (c .before .enum-told .given .1) (c .check-zero .ensures)
 
 returns-2 : tie.Need-returns-2
-returns-2 c = simp (ne-eqb _ _ (c .before .if1 .left)) (c .refuse .ensures)
+unfolding fillerCheck
+returns-2 c = rw (c .before .enum-told2 .given .1) (c .check-mark .ensures)
 
 pub check-filler-spec : {M : Type 1} → statement M
-check-filler-spec = tie.close (tie.spec (λ c κs. search needs) returns returns-2)
+check-filler-spec =
+    tie.close
+    (tie.spec enum-told (λ c κs. search needs) (λ c. search needs) (λ c κs. search needs) returns returns-2)

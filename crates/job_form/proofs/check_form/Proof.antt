@@ -14,11 +14,13 @@ returns : tie.Need-returns
 unfolding formCheck
 returns c = stopped _ (c .before .before .check-size .ensures) (c .enum-told2 .given .1)
 
-sized : (c : tie.After-enum-told) → sizeCheck (length (now (c .before .before .before .before .args .bytes))) ≡ accepted
+sized : (c : tie.After-enum-told)
+    → let args = c .before .before .before .before .args in
+    sizeCheck (args .version) (length (now (args .bytes))) ≡ accepted
 sized c = opened (c .before .before .check-size .ensures) (c .enum-told .given .1)
 
 check-signature-requires : tie.Need-check-signature-requires
-check-signature-requires c κs = size-accepted _ (sized c) .long
+check-signature-requires c κs = size-accepted _ _ (sized c) .long
 
 returns-2 : tie.Need-returns-2
 unfolding formCheck
@@ -27,7 +29,7 @@ returns-2 c =
     went-on (sized (signature .before)) (stopped _ (signature .check-signature .ensures) (c .enum-told4 .given .1))
 
 check-layout-requires : tie.Need-check-layout-requires
-check-layout-requires c κs = size-accepted _ (sized (c .before .before .before)) .long
+check-layout-requires c κs = size-accepted _ _ (sized (c .before .before .before)) .long
 
 returns-3 : tie.Need-returns-3
 unfolding formCheck

@@ -1,6 +1,7 @@
 use borrow.Author.Needs.{needs}
 use Rattle.capi.specs.Structs.{encodeJob, decodeJob}
-use Rattle.capi.proofs.ReadBack.{stands-for, job-back}
+use Rattle.capi.proofs.ReadBack.{stands-for}
+use Rattle.capi.proofs.JobBack.{job-back}
 use Rattle.capi.proofs.job_read.zilqodur_read_job.Statement.{statement}
 use Rattle.capi.proofs.job_read.zilqodur_read_job.Tie as tie
 

@@ -1,6 +1,7 @@
 use borrow.Author.Needs.{needs}
 use Rattle.capi.specs.Structs.{encodeJobLength, decodeJobLength}
-use Rattle.capi.proofs.ReadBack.{stands-for, job-length-back}
+use Rattle.capi.proofs.ReadBack.{stands-for}
+use Rattle.capi.proofs.JobBack.{job-length-back}
 use Rattle.capi.proofs.job_write.zilqodur_job_length.Statement.{statement}
 use Rattle.capi.proofs.job_write.zilqodur_job_length.Tie as tie
 

@@ -1,6 +1,7 @@
 use borrow.Author.Needs.{needs}
 use Rattle.capi.specs.Structs.{encodeJobLength, decodeJobLength}
-use Rattle.capi.proofs.ReadBack.{stands-for, job-written-back}
+use Rattle.capi.proofs.ReadBack.{stands-for}
+use Rattle.capi.proofs.JobBack.{job-written-back}
 use Rattle.capi.proofs.job_write.zilqodur_write_job.Statement.{statement}
 use Rattle.capi.proofs.job_write.zilqodur_write_job.Tie as tie
 

@@ -8,7 +8,7 @@ use denote.Ref.{now}
 use Rattle.answer_forms.specs.Answer.{accepted}
 use Rattle.answers.specs.Checks.{oneByOne}
 use Rattle.answers.specs.Level.{floorsCheck}
-use Rattle.checks.proofs.Arcs.{arcs-on, arcs-stop}
+use Rattle.answers.proofs.OneByOne.{step-accepted, step-refused}
 use Rattle.checks.proofs.floors.check_floors.Statement.{statement}
 use Rattle.checks.proofs.floors.check_floors.Tie as tie
 
@@ -26,15 +26,17 @@ loop-holds c = (omega arith, c .before .before .pre, refl)
 returns : tie.Need-returns Inv-loop μ-loop
 returns c =
     let at = c .before .before .before .before .before .before .loop in
-    arcs-stop _ (at .i) {k = at .i + 1} _ (omega arith) (at .inv .2) (c .before .before .check-floor .ensures)
+    step-refused _ (at .i) {k = at .i + 1} _ (omega arith) (at .inv .2) (c .before .before .check-floor .ensures)
     (c .enum-told2 .given .1) _ (omega arith)
 
 loop-again : tie.Need-loop-again Inv-loop μ-loop
 loop-again c =
-    let at = c .before .before .before .before .before .before .loop in (
+    let begun = c .before .before .before .before .before .before in
+    let at = begun .loop in (
       omega arith,
       at .inv .1,
-      arcs-on _ (at .i) _ (omega arith) (at .inv .2) (c .before .before .check-floor .ensures) (c .enum-told .given .1),
+      step-accepted _ (at .i) _ (omega arith) (at .inv .2) (c .before .before .check-floor .ensures)
+          (c .enum-told .given .1),
     )
 
 returns-2 : tie.Need-returns-2 Inv-loop μ-loop

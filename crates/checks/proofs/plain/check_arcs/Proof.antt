@@ -8,7 +8,8 @@ use denote.Ref.{now}
 use Rattle.answer_forms.specs.Answer.{accepted}
 use Rattle.answer_forms.specs.Checked.{checkOf}
 use Rattle.answers.specs.Checks.{oneByOne, arcCheck}
-use Rattle.checks.proofs.Arcs.{arc-here, arcs-on, arcs-stop}
+use Rattle.answers.proofs.OneByOne.{step-accepted, step-refused}
+use Rattle.checks.proofs.Arcs.{arc-here}
 use Rattle.checks.proofs.plain.check_arcs.Statement.{statement}
 use Rattle.checks.proofs.plain.check_arcs.Tie as tie
 
@@ -43,14 +44,18 @@ returns : tie.Need-returns Inv-loop μ-loop
 returns c =
     let checked = c .before .before in
     let at = begun checked .loop in
-    arcs-stop _ (at .i) {k = at .i + 1} _ (omega arith) (at .inv .2) (here checked) (c .enum-told2 .given .1) _
+    step-refused _ (at .i) {k = at .i + 1} _ (omega arith) (at .inv .2) (here checked) (c .enum-told2 .given .1) _
     (omega arith)
 
 loop-again : tie.Need-loop-again Inv-loop μ-loop
 loop-again c =
     let checked = c .before .before in
-    let at = begun checked .loop in
-    (omega arith, at .inv .1, arcs-on _ (at .i) _ (omega arith) (at .inv .2) (here checked) (c .enum-told .given .1))
+    let at = begun checked .loop in (
+      omega arith,
+      at .inv .1,
+      step-accepted _ (at .i) _ (omega arith) (at .inv .2) (here checked)
+          (c .enum-told .given .1),
+    )
 
 returns-2 : tie.Need-returns-2 Inv-loop μ-loop
 returns-2 c =

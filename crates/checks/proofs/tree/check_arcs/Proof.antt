@@ -12,7 +12,8 @@ use Rattle.limits.specs.Limits.{mostArcs}
 use Rattle.game.specs.Tree.{hasChild}
 use Rattle.answer_forms.specs.Answer.{Check, accepted, _then_}
 use Rattle.answers.specs.Checks.{oneByOne, arcCheck, markCheck}
-use Rattle.checks.proofs.Arcs.{marked-here, arcs-on, arcs-stop}
+use Rattle.answers.proofs.OneByOne.{step-accepted, step-refused}
+use Rattle.checks.proofs.Arcs.{marked-here}
 use Rattle.checks.proofs.tree.check_arcs.Statement.{statement}
 use Rattle.checks.proofs.tree.check_arcs.Tie as tie
 
@@ -63,7 +64,7 @@ returns : tie.Need-returns Inv-loop μ-loop
 returns c =
     let checked = c .before .before in
     let at = begun checked .loop in
-    arcs-stop _ (at .i) {k = at .i + 1} _ (omega arith) (at .inv .5) (here checked) (c .enum-told2 .given .1) _
+    step-refused _ (at .i) {k = at .i + 1} _ (omega arith) (at .inv .5) (here checked) (c .enum-told2 .given .1) _
     (omega arith)
 
 loop-again : tie.Need-loop-again Inv-loop μ-loop
@@ -75,7 +76,7 @@ loop-again c =
       at .inv .2,
       at .inv .3,
       at .inv .4,
-      arcs-on _ (at .i) _ (omega arith) (at .inv .5) (here checked) (c .enum-told .given .1),
+      step-accepted _ (at .i) _ (omega arith) (at .inv .5) (here checked) (c .enum-told .given .1),
     )
 
 returns-2 : tie.Need-returns-2 Inv-loop μ-loop

@@ -10,7 +10,7 @@ use Rattle.answers.specs.Level.{capsCheck}
 use Rattle.answers.proofs.DeadEnds.{plain-check}
 use Rattle.job_bytes.specs.JobBytes.{Contents, contents}
 use Rattle.job.specs.Writer.{membersOf, contentsCheck}
-use Rattle.job.proofs.Counted.{tree-is, tree-refused, tree-counted}
+use Rattle.job_checks.proofs.Counted.{tree-is, tree-refused, tree-counted}
 use Rattle.job.proofs.writer.check_contents.Statement.{statement}
 use Rattle.job.proofs.writer.check_contents.Tie as tie
 

@@ -8,7 +8,8 @@ use Rattle.answer_forms.proofs.Opened.{opened, turned-away}
 use Rattle.answer_forms.specs.Answer.{accepted}
 use Rattle.job_bytes.specs.JobBytes.{Contents, contents}
 use Rattle.job.specs.Writer.{contentsCheck}
-use Rattle.job.proofs.Writable.{writable, few-arcs, few-members}
+use Rattle.job_checks.proofs.Made.{few-arcs, few-members}
+use Rattle.job.proofs.Writable.{writable, fillable}
 use Rattle.job.proofs.WriterAnswered.{refused-length, accepted-length}
 use Rattle.job.proofs.writer.job_length.Statement.{statement}
 use Rattle.job.proofs.writer.job_length.Tie as tie
@@ -34,8 +35,8 @@ ok c = opened (c .before .before .check-contents .ensures) (c .enum-told .given 
 small : (c : tie.After-enum-told)
     → length (start c .note) + 8 * length (start c .parents) + 16 * length (start c .caps) + 16 < 2 ^ 64
 small c =
-    let w = writable (start c) (ok c) in
-    omega (arith, w .note, few-arcs _ w, few-members _ w)
+    let w = fillable (start c) (writable (start c) (ok c)) in
+    omega (arith, w .note, few-arcs _ _ _ w, few-members _ _ _ w)
 
 mul-t10 : tie.Need-mul-t10
 mul-t10 c = omega (arith, small c)

@@ -1,16 +1,22 @@
-use borrow.Author.Needs.{needs}
+use denote.Ref.{now}
+use Rattle.job_bytes.specs.JobBytes.{contents, filledWith}
 use Rattle.job_bytes.proofs.Putting.{job-put}
+use borrow.Author.Needs.{needs}
 use Rattle.job_bytes.proofs.put_parts.put_job.Statement.{statement}
 use Rattle.job_bytes.proofs.put_parts.put_job.Tie as tie
 
 returns : tie.Need-returns
 returns c =
-    let end = c .before .before in
-    let members = end .before .before .before .before in
-    let arcs = members .before .before .before .before in
-    let note = arcs .before .before .before .before in
-    job-put _ (note .put .ensures) (arcs .put-arcs .ensures .0) (members .put-members .ensures .0)
-    (end .put-trailer .ensures)
+    let at-put-members = c .before .before .before .before .before .before in
+    let at-put-arcs = at-put-members .before .before .before .before in
+    let at-put = at-put-arcs .before .before .before .before in
+    let start = at-put .before .before .before .before .before .before .before .before in
+    let args = start .args in
+    let values = contents (now (args .note)) (now (args .parents)) (now (args .costs)) (now (args .caps))
+    (now (args .proposals)) in
+    job-put (args .version) (filledWith (now (args .fillers)) values) (at-put .put .ensures)
+    (at-put-arcs .put-arcs .ensures .0)
+    (at-put-members .put-members .ensures .0) (c .before .before .put-trailer .ensures)
 
 pub put-job-spec : {M : Type 1} → statement M
 put-job-spec =

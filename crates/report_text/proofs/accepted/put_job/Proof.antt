@@ -7,7 +7,7 @@ use Rattle.limits.specs.Limits.{mostArcs}
 use Rattle.game.specs.Tree.{deadEnds}
 use Rattle.basics.proofs.Lists.{zeros-length}
 use Rattle.answers.proofs.Limits.{tree-limits}
-use Rattle.report_text.proofs.Found.{marks-room, marks-part}
+use Rattle.job_checks.proofs.Marked.{marks-room, marks-part}
 use borrow.Author.Needs.{needs}
 use Rattle.report_text.proofs.accepted.put_job.Statement.{statement}
 use Rattle.report_text.proofs.accepted.put_job.Tie as tie

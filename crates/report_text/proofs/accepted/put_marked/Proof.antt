@@ -7,7 +7,8 @@ use Rattle.limits.specs.Limits.{mostArcs}
 use Rattle.game.specs.Tree.{treeOf}
 use Rattle.buffer.proofs.Pieces.{put-then}
 use Rattle.report_text.specs.Report.{blank}
-use Rattle.report_text.proofs.Found.{few-members, zeros}
+use Rattle.report_text.proofs.Found.{few-members}
+use Rattle.job_bytes.proofs.Zeros.{zeros-part}
 use borrow.Author.Needs.{needs}
 use Rattle.report_text.proofs.accepted.put_marked.Statement.{statement}
 use Rattle.report_text.proofs.accepted.put_marked.Tie as tie
@@ -39,7 +40,7 @@ put-tree-requires c κs =
 blanks : (c : tie.Start)
     → take {A = ℕ} (length (now (c .args .proposed)) - 0) (replicate mostArcs 0)
     ≡ blank (treeOf (now (c .args .parents)) (now (c .args .costs)) (now (c .args .marks)))
-blanks c = zeros _ (few c) ∙ ap (λ (n : ℕ). replicate n 0) (c .pre .1 .0)
+blanks c = zeros-part mostArcs _ (few c) ∙ ap (λ (n : ℕ). replicate n 0) (c .pre .1 .0)
 
 put-splits-requires : tie.Need-put-splits-requires
 put-splits-requires c κs =

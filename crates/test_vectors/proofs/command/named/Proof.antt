@@ -10,7 +10,7 @@ use Rattle.test_vectors.specs.Commands.{commands, names, Named}
 use Rattle.test_vectors.proofs.command.named.Statement.{statement}
 use Rattle.test_vectors.proofs.command.named.Tie as tie
 
-at-place : {name : List ℕ} {r p : ℕ} → First (fieldsOf names) 18 name r → r ≡ p → Named name (getD commands p Unknown)
+at-place : {name : List ℕ} {r p : ℕ} → First (fieldsOf names) 21 name r → r ≡ p → Named name (getD commands p Unknown)
 at-place {r = r} first e = record { place = r; first = first; is = ap (λ (i : ℕ). getD commands i Unknown) (sym e) }
 
 returns : tie.Need-returns
@@ -67,30 +67,43 @@ returns-17 c = at-place (c .before .find .ensures) (c .match .keys17)
 returns-18 : tie.Need-returns-18
 returns-18 c = at-place (c .before .find .ensures) (c .match .keys18)
 
--- none of the names before, so the last place and past it
 returns-19 : tie.Need-returns-19
-returns-19 c =
+returns-19 c = at-place (c .before .find .ensures) (c .match .keys19)
+
+returns-20 : tie.Need-returns-20
+returns-20 c = at-place (c .before .find .ensures) (c .match .keys20)
+
+returns-21 : tie.Need-returns-21
+returns-21 c = at-place (c .before .find .ensures) (c .match .keys21)
+
+-- none of the names before, so the last place and past it
+returns-22 : tie.Need-returns-22
+returns-22 c =
     let found = c .before .find .ensures in
     let none = c .match .rest in
-    let p0 : 0 < c .before .find .result = omega (arith, none .0 .0 .0 .0 .0 .0 .0 .0 .0 .0 .0 .0 .0 .0 .0 .0 .0 .1) in
-    let p1 : 1 < c .before .find .result = omega (arith, none .0 .0 .0 .0 .0 .0 .0 .0 .0 .0 .0 .0 .0 .0 .0 .0 .1, p0) in
-    let p2 : 2 < c .before .find .result = omega (arith, none .0 .0 .0 .0 .0 .0 .0 .0 .0 .0 .0 .0 .0 .0 .0 .1, p1) in
-    let p3 : 3 < c .before .find .result = omega (arith, none .0 .0 .0 .0 .0 .0 .0 .0 .0 .0 .0 .0 .0 .0 .1, p2) in
-    let p4 : 4 < c .before .find .result = omega (arith, none .0 .0 .0 .0 .0 .0 .0 .0 .0 .0 .0 .0 .0 .1, p3) in
-    let p5 : 5 < c .before .find .result = omega (arith, none .0 .0 .0 .0 .0 .0 .0 .0 .0 .0 .0 .0 .1, p4) in
-    let p6 : 6 < c .before .find .result = omega (arith, none .0 .0 .0 .0 .0 .0 .0 .0 .0 .0 .0 .1, p5) in
-    let p7 : 7 < c .before .find .result = omega (arith, none .0 .0 .0 .0 .0 .0 .0 .0 .0 .0 .1, p6) in
-    let p8 : 8 < c .before .find .result = omega (arith, none .0 .0 .0 .0 .0 .0 .0 .0 .0 .1, p7) in
-    let p9 : 9 < c .before .find .result = omega (arith, none .0 .0 .0 .0 .0 .0 .0 .0 .1, p8) in
-    let p10 : 10 < c .before .find .result = omega (arith, none .0 .0 .0 .0 .0 .0 .0 .1, p9) in
-    let p11 : 11 < c .before .find .result = omega (arith, none .0 .0 .0 .0 .0 .0 .1, p10) in
-    let p12 : 12 < c .before .find .result = omega (arith, none .0 .0 .0 .0 .0 .1, p11) in
-    let p13 : 13 < c .before .find .result = omega (arith, none .0 .0 .0 .0 .1, p12) in
-    let p14 : 14 < c .before .find .result = omega (arith, none .0 .0 .0 .1, p13) in
-    let p15 : 15 < c .before .find .result = omega (arith, none .0 .0 .1, p14) in
-    let p16 : 16 < c .before .find .result = omega (arith, none .0 .1, p15) in
-    let p17 : 17 < c .before .find .result = omega (arith, none .1, p16) in
-    at-place {p = 18} found (omega (arith, found .within, p17))
+    let early = none .0 .0 .0 .0 .0 .0 .0 .0 .0 .0 in
+    let p0 : 0 < c .before .find .result = omega (arith, early .0 .0 .0 .0 .0 .0 .0 .0 .0 .0 .1) in
+    let p1 : 1 < c .before .find .result = omega (arith, early .0 .0 .0 .0 .0 .0 .0 .0 .0 .1, p0) in
+    let p2 : 2 < c .before .find .result = omega (arith, early .0 .0 .0 .0 .0 .0 .0 .0 .1, p1) in
+    let p3 : 3 < c .before .find .result = omega (arith, early .0 .0 .0 .0 .0 .0 .0 .1, p2) in
+    let p4 : 4 < c .before .find .result = omega (arith, early .0 .0 .0 .0 .0 .0 .1, p3) in
+    let p5 : 5 < c .before .find .result = omega (arith, early .0 .0 .0 .0 .0 .1, p4) in
+    let p6 : 6 < c .before .find .result = omega (arith, early .0 .0 .0 .0 .1, p5) in
+    let p7 : 7 < c .before .find .result = omega (arith, early .0 .0 .0 .1, p6) in
+    let p8 : 8 < c .before .find .result = omega (arith, early .0 .0 .1, p7) in
+    let p9 : 9 < c .before .find .result = omega (arith, early .0 .1, p8) in
+    let p10 : 10 < c .before .find .result = omega (arith, early .1, p9) in
+    let p11 : 11 < c .before .find .result = omega (arith, none .0 .0 .0 .0 .0 .0 .0 .0 .0 .1, p10) in
+    let p12 : 12 < c .before .find .result = omega (arith, none .0 .0 .0 .0 .0 .0 .0 .0 .1, p11) in
+    let p13 : 13 < c .before .find .result = omega (arith, none .0 .0 .0 .0 .0 .0 .0 .1, p12) in
+    let p14 : 14 < c .before .find .result = omega (arith, none .0 .0 .0 .0 .0 .0 .1, p13) in
+    let p15 : 15 < c .before .find .result = omega (arith, none .0 .0 .0 .0 .0 .1, p14) in
+    let p16 : 16 < c .before .find .result = omega (arith, none .0 .0 .0 .0 .1, p15) in
+    let p17 : 17 < c .before .find .result = omega (arith, none .0 .0 .0 .1, p16) in
+    let p18 : 18 < c .before .find .result = omega (arith, none .0 .0 .1, p17) in
+    let p19 : 19 < c .before .find .result = omega (arith, none .0 .1, p18) in
+    let p20 : 20 < c .before .find .result = omega (arith, none .1, p19) in
+    at-place {p = 21} found (omega (arith, found .within, p20))
 
 pub named-spec : {M : Type 1} → statement M
 named-spec =
@@ -116,4 +129,7 @@ named-spec =
     returns-16
     returns-17
     returns-18
-    returns-19)
+    returns-19
+    returns-20
+    returns-21
+    returns-22)

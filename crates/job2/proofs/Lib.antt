@@ -1,0 +1,9 @@
+mod Readable
+mod Parts
+mod Answered
+mod Convertible
+mod Converted
+pub mod Usable
+pub mod Versions
+pub mod ConverterLaws
+pub mod Table

@@ -1,0 +1,2 @@
+pub mod JobCheck
+pub mod Inner
