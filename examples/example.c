@@ -1,5 +1,5 @@
 /* Audits and splits the tree T of docs/SPECIFICATION.md, §10, with a member at every dead end, then with one spare; then
- * somebody asks what arriving there would cost, and arrives. */
+ * somebody asks what arriving there would cost, and arrives. At the end, all parent lists of three arcs. */
 #include "zilqodur.h"
 
 #include <inttypes.h>
@@ -7,6 +7,7 @@
 
 #define ARCS 4
 #define MEMBERS 3
+#define SMALL 3
 
 static const uint16_t parents[ARCS] = {0, 1, 1, 0};
 static const uint32_t costs[ARCS] = {6, 1, 5, 4};
@@ -101,6 +102,19 @@ static void commit(ZilqodurState *state, ZilqodurQuote quote) {
     *state = a.state;
 }
 
+/* From all zeros to the last list. */
+static void small_networks(void) {
+    uint16_t list[SMALL] = {0};
+    printf("networks");
+    do {
+        printf(" ");
+        for (size_t i = 0; i < SMALL; i++) {
+            printf("%" PRIu16, list[i]);
+        }
+    } while (zilqodur_next_parents(list, SMALL).verdict == ZILQODUR_STEP_NEXT);
+    printf("\n");
+}
+
 int main(void) {
     ZilqodurMembers m = zilqodur_mark_dead_ends(parents, ARCS, costs, ARCS, marks, ARCS);
     if (m.refusal != ZILQODUR_NO_REFUSAL) {
@@ -124,5 +138,6 @@ int main(void) {
     commit(&state, quote); /* the plot is sold */
     commit(&state, quote); /* a quote is carried out once */
     ask(&state, 3);
+    small_networks();
     return 0;
 }

@@ -1,5 +1,6 @@
 // Audits and splits the tree T of docs/SPECIFICATION.md, §10, with a member at every dead end, then with one spare; then
-// somebody asks what arriving there would cost, and arrives. The declarations are those of include/zilqodur.h.
+// somebody asks what arriving there would cost, and arrives. At the end, all parent lists of three arcs. The
+// declarations are those of include/zilqodur.h.
 
 #[repr(C)]
 struct ZilqodurMembers {
@@ -32,6 +33,13 @@ struct ZilqodurLevel {
     place: usize,
     shortfall: u64,
     members: usize,
+}
+
+#[repr(C)]
+struct ZilqodurStep {
+    refusal: u32,
+    place: usize,
+    verdict: u32,
 }
 
 #[repr(C)]
@@ -136,6 +144,8 @@ unsafe extern "C" {
         out_count: usize,
     ) -> ZilqodurMembers;
 
+    fn zilqodur_next_parents(parents: *mut u16, parents_count: usize) -> ZilqodurStep;
+
     fn zilqodur_make_state(
         parents: *const u16,
         parents_count: usize,
@@ -154,6 +164,7 @@ const ADDS_UP: u32 = 1;
 const OFF: u32 = 2;
 const NO_GROUP: u32 = 1;
 const GROUP: u32 = 2;
+const STEP_NEXT: u32 = 1;
 const ARRIVE: u32 = 0;
 
 const PARENTS: [u16; 4] = [0, 1, 1, 0];
@@ -239,6 +250,11 @@ fn split_by_arc(marks: &[u16], out: &mut [u64]) -> ZilqodurMembers {
             out.len(),
         )
     }
+}
+
+fn next_parents(list: &mut [u16]) -> ZilqodurStep {
+    // Safety: the pointer and the count are those of one slice, which is borrowed alone.
+    unsafe { zilqodur_next_parents(list.as_mut_ptr(), list.len()) }
 }
 
 fn make_state(marks: &[u16]) -> ZilqodurStateAnswer {
@@ -340,6 +356,22 @@ fn print_commit(state: &ZilqodurState, quote: ZilqodurQuote) -> ZilqodurState {
     a.state
 }
 
+/// From all zeros to the last list.
+fn print_small_networks() {
+    let mut list = [0; 3];
+    print!("networks");
+    loop {
+        let digits: String = list.iter().map(u16::to_string).collect();
+        print!(" {digits}");
+        let s = next_parents(&mut list);
+        assert_eq!((s.refusal, s.place), (0, 0));
+        if s.verdict != STEP_NEXT {
+            break;
+        }
+    }
+    println!();
+}
+
 fn main() {
     let mut marks = [0; 4];
     let m = mark_dead_ends(&mut marks);
@@ -366,4 +398,5 @@ fn main() {
     // A quote is carried out once.
     let state = print_commit(&state, quote);
     print_ask(&state, 3);
+    print_small_networks();
 }

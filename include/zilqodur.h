@@ -80,7 +80,8 @@ enum ZilqodurRefusal {
     ZILQODUR_FLOOR_ABOVE_CAP = 27, /* [lowest such member] */
     ZILQODUR_FLOORS_ABOVE_NEED = 28, /* [arc] */
     ZILQODUR_UNMARKED_DEAD_END = 29, /* [lowest such vertex] */
-    ZILQODUR_FLOOR_ABOVE_ZERO = 30 /* [lowest such member] */
+    ZILQODUR_FLOOR_ABOVE_ZERO = 30, /* [lowest such member] */
+    ZILQODUR_SMALL_ARC_COUNT = 31
 };
 
 /* What a refusal's number says, as a sentence for a person. The strings are constants; nobody frees them. */
@@ -117,6 +118,7 @@ static inline const char *zilqodur_refusal_text(uint32_t refusal) {
         case ZILQODUR_FLOORS_ABOVE_NEED: return "the adjusted need of an arc from the source is above its need";
         case ZILQODUR_UNMARKED_DEAD_END: return "a dead end is not marked";
         case ZILQODUR_FLOOR_ABOVE_ZERO: return "a floor is above 0";
+        case ZILQODUR_SMALL_ARC_COUNT: return "the list to step from has no entry, or more than 6";
         default: return "no refusal has this number";
     }
 }
@@ -124,6 +126,9 @@ static inline const char *zilqodur_refusal_text(uint32_t refusal) {
 /* The greatest number of arcs, and so of members, of a tree: the entries of each list of a state, and those that zilqodur_read_job and
  * zilqodur_read_job2 ask of each list that they fill. */
 #define ZILQODUR_MOST_ARCS 1023
+
+/* The greatest number of arcs of the parent lists that zilqodur_next_parents steps through. */
+#define ZILQODUR_MOST_SMALL_ARCS 6
 
 /* The greatest number of events that are committed one after another on a state that was made: where so many are, or more,
  * zilqodur_commit refuses. */
@@ -210,6 +215,18 @@ typedef struct ZilqodurMargin {
     uint64_t margin; /* the greatest that all proper nonempty groups of the arc's users can have together */
     size_t users;    /* the number of the arc's users: entries written to `out` */
 } ZilqodurMargin;
+
+enum ZilqodurStepVerdict {
+    ZILQODUR_NO_STEP = 0,   /* the step is refused */
+    ZILQODUR_STEP_NEXT = 1, /* the next list is written */
+    ZILQODUR_STEP_END = 2   /* the list is the last one, and is as it came */
+};
+
+typedef struct ZilqodurStep {
+    uint32_t refusal;
+    size_t place;
+    uint32_t verdict; /* one of enum ZilqodurStepVerdict: 0 exactly where `refusal` is not 0 */
+} ZilqodurStep;
 
 /* A tree, its by-arc split and the number of events committed. zilqodur_make_state makes one, and zilqodur_commit makes the next one of it.
  * The tree is the first `arcs` entries of `parents`, `costs` and `marks`; `shares` has one share a member. All other entries of a state
@@ -353,6 +370,13 @@ ZilqodurMembers zilqodur_split_by_arc(const uint16_t *parents, size_t parents_co
  * that of a number outside 1 to m, and the place of 25 and 26 is the number handed over. */
 ZilqodurMargin zilqodur_split_margin(const uint16_t *parents, size_t parents_count, const uint32_t *costs, size_t costs_count,
                                      const uint16_t *marks, size_t marks_count, size_t arc, uint64_t *out, size_t out_count);
+
+/* Steps from a parent list of m arcs to the next one, m being 1 to ZILQODUR_MOST_SMALL_ARCS. A parent list has for each arc a number below
+ * the arc's own, entry 0 for arc 1; there are m! of them. They stand in rising order, their entries being compared from arc 1 on: those of
+ * 3 arcs are 0 0 0, 0 0 1, 0 0 2, 0 1 0, 0 1 1 and 0 1 2. Where a list follows it is written to `parents`; at the last one, 0 1 .. m - 1,
+ * the verdict says so and `parents` is as it came. From m zeros m! - 1 steps show every parent list of m arcs once, and so every shape
+ * that a tree of m arcs can have. Refusals: 31, then 3 at the lowest such arc. */
+ZilqodurStep zilqodur_next_parents(uint16_t *parents, size_t parents_count);
 
 /* Makes the state of a tree, with the shares that zilqodur_split_by_arc writes and with no event committed. Where the tree is refused,
  * `state` is 0 throughout. Refusals: the tree's. */

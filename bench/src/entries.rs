@@ -30,6 +30,21 @@ pub struct Times {
     pub best: Option<f64>,
 }
 
+impl Times {
+    pub fn ratio(&self) -> f64 {
+        self.engine / self.same
+    }
+}
+
+/// The times of all sides.
+pub fn times(sides: &[f64]) -> Times {
+    Times {
+        engine: sides[0],
+        same: sides[1],
+        best: sides.get(2).copied(),
+    }
+}
+
 /// A call's answer with the list that it wrote.
 pub fn written<E: Clone + From<u8>, T>(length: usize, call: impl Fn(&mut [E]) -> T) -> (T, Vec<E>) {
     let mut out = vec![E::from(7); length];
@@ -274,11 +289,6 @@ const CALLS: [fn(&Network) -> Calls<'_>; 18] = [
 pub fn measure(entry: usize, networks: &[Network]) -> Vec<Times> {
     let mut calls: Calls = networks.iter().flat_map(CALLS[entry]).collect();
     let medians = medians(&mut calls);
-    let times = |sides: &[f64]| Times {
-        engine: sides[0],
-        same: sides[1],
-        best: sides.get(2).copied(),
-    };
     let sides = medians.len() / networks.len();
     medians.chunks(sides).map(times).collect()
 }

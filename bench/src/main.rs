@@ -1,6 +1,6 @@
 //! Times the archive's entries against the same algorithms in Rust, and the
 //! level split against another algorithm besides. Prints Markdown tables, and
-//! meanwhile on standard error the network that is timed.
+//! meanwhile on standard error what is timed.
 //!
 //!     bench          compares the answers on each measured network, then times
 //!     bench quick    compares the answers on many networks, and times nothing
@@ -30,6 +30,7 @@ mod reference;
 #[path = "../../tests/comparison/src/rng.rs"]
 mod rng;
 mod same;
+mod steps;
 
 use entries::ENTRIES;
 use networks::{Caps, Network, Shape, SHAPES};
@@ -48,6 +49,7 @@ fn main() {
 
 /// Compares the answers; tells on how many networks.
 fn compare() -> usize {
+    steps::compare();
     let mut networks = 0;
     for (shape, _) in SHAPES {
         for arcs in [
@@ -89,9 +91,11 @@ fn measure() {
     let rows: Vec<Row> = shapes
         .flat_map(|&(shape, name)| measure_shape(shape, name))
         .collect();
-    page::print_summary(&rows);
+    let walks = steps::measure();
+    page::print_summary(&rows, &walks);
     for entry in 0..ENTRIES.len() {
         page::print_entry(&rows, entry);
     }
+    page::print_steps(&walks);
     page::print_growth(&rows, SIZES[1], SIZES[2]);
 }

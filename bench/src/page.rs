@@ -1,6 +1,7 @@
 //! The tables, as Markdown.
 
 use crate::entries::{Times, ENTRIES, FLOORS, LEVEL, MARGIN, READER_2, TO_1, TO_2};
+use crate::steps::Walk;
 
 /// What was measured on one network.
 pub struct Row {
@@ -16,7 +17,7 @@ pub struct Row {
 
 impl Row {
     fn ratio(&self, entry: usize) -> f64 {
-        self.times[entry].engine / self.times[entry].same
+        self.times[entry].ratio()
     }
 }
 
@@ -37,28 +38,32 @@ fn micros(time: f64) -> String {
     }
 }
 
+/// The name of the entry that takes no network.
+const STEPS: &str = "steps";
+
+/// The least, middle and greatest of an entry's ratios, each ratio with what it
+/// was measured on.
+fn print_ratios(name: &str, mut ratios: Vec<(f64, String)>) {
+    ratios.sort_by(|(a, _), (b, _)| a.total_cmp(b));
+    let last = ratios.len() - 1;
+    let (least, median) = (ratios[0].0, ratios[ratios.len() / 2].0);
+    let (greatest, on) = &ratios[last];
+    println!("| {name} | {least:.2} | {median:.2} | {greatest:.2} | {on} |");
+}
+
 /// The least, middle and greatest ratio of each entry.
-pub fn print_summary(rows: &[Row]) {
+pub fn print_summary(rows: &[Row], walks: &[Walk]) {
     println!("## In short\n");
     println!("Time of the engine over time of the same algorithm in Rust, over all networks and sizes.\n");
     println!("| Entry | Least | Median | Greatest | Greatest on |");
     println!("|---|--:|--:|--:|---|");
     for (entry, name) in ENTRIES.iter().enumerate() {
-        let mut order: Vec<&Row> = rows.iter().collect();
-        order.sort_by(|a, b| a.ratio(entry).total_cmp(&b.ratio(entry)));
-        let (first, middle, last) = (order[0], order[rows.len() / 2], order[rows.len() - 1]);
-        print!(
-            "| {name} | {:.2} | {:.2} ",
-            first.ratio(entry),
-            middle.ratio(entry)
-        );
-        println!(
-            "| {:.2} | {}, m = {} |",
-            last.ratio(entry),
-            last.network,
-            number(last.arcs)
-        );
+        let on = |row: &Row| format!("{}, m = {}", row.network, number(row.arcs));
+        let ratio = |row| (Row::ratio(row, entry), on(row));
+        print_ratios(name, rows.iter().map(ratio).collect());
     }
+    let ratio = |walk: &Walk| (walk.times.ratio(), format!("m = {}", walk.arcs));
+    print_ratios(STEPS, walks.iter().map(ratio).collect());
 }
 
 /// What the entry is measured on, where the others are not.
@@ -98,6 +103,22 @@ pub fn print_entry(rows: &[Row], entry: usize) {
             print!(" {} | {:.1} |", micros(best), times.engine / best);
         }
         println!();
+    }
+}
+
+/// The steps through all parent lists.
+pub fn print_steps(walks: &[Walk]) {
+    println!("\n## {STEPS}\n");
+    println!(
+        "From m zeros through all parent lists of m arcs up to the end, a call for each list.\n"
+    );
+    println!("| m | Lists | Engine µs | Same algorithm µs | Ratio |");
+    println!("|--:|--:|--:|--:|--:|");
+    for walk in walks {
+        let times = walk.times;
+        print!("| {} | {} ", walk.arcs, walk.lists);
+        print!("| {} | {} ", micros(times.engine), micros(times.same));
+        println!("| {:.2} |", times.ratio());
     }
 }
 

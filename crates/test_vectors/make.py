@@ -73,6 +73,7 @@ from margins import (
     small_margins,
     spare_plots,
 )
+from next_parents import every_list, list_faults, list_lengths, random_parents, walks
 from pruned import check_pruned
 from job_parts import JOB_PARTS
 from events import (
@@ -170,6 +171,11 @@ PARTS = [
     large_margins,
     margin_refusals,
     random_margins,
+    every_list,
+    walks,
+    list_lengths,
+    list_faults,
+    random_parents,
     *JOB_PARTS,
     made_states,
     refused_makings,

@@ -1,6 +1,7 @@
 /* Calls every function of zilqodur.h on a stack that has no more bytes free than the header names, on trees of 1,023
- * arcs and on their jobs, of which the star's are the longest that are read. Each call is made in a child process, which
- * ends by a signal where the function takes more. Exit status 1, and a line for each such call. */
+ * arcs, on their jobs, of which the star's are the longest that are read, and on a list of as many arcs as are stepped
+ * through. Each call is made in a child process, which ends by a signal where the function takes more. Exit status 1,
+ * and a line for each such call. */
 #include "zilqodur.h"
 
 #include <alloca.h>
@@ -30,6 +31,7 @@
 #define STACK (1 << 18)
 
 static uint16_t parents[ARCS], marks[ARCS], vertices[ARCS], branch[ARCS], branch_marks[ARCS];
+static uint16_t small[ZILQODUR_MOST_SMALL_ARCS] = {0, 0, 2, 3, 4, 5};
 static uint32_t costs[ARCS];
 static uint64_t caps[ARCS], floors[ARCS], out[ARCS], group[16];
 static int64_t proposal[ARCS];
@@ -93,6 +95,10 @@ static uint32_t split_by_arc(void) {
 
 static uint32_t split_margin(void) {
     return zilqodur_split_margin(branch, ARCS, costs, ARCS, branch_marks, ARCS, 1, out, branch_members).refusal;
+}
+
+static uint32_t next_parents(void) {
+    return zilqodur_next_parents(small, ZILQODUR_MOST_SMALL_ARCS).refusal;
 }
 
 static uint32_t make_state(void) {
@@ -162,6 +168,7 @@ static const struct {
     {"zilqodur_split_level", split_level, LEVEL},
     {"zilqodur_split_by_arc", split_by_arc, OTHER},
     {"zilqodur_split_margin", split_margin, MARGIN},
+    {"zilqodur_next_parents", next_parents, OTHER},
     {"zilqodur_make_state", make_state, MAKE},
     {"zilqodur_ask", ask, ASK},
     {"zilqodur_commit", commit, COMMIT},

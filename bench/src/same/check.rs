@@ -3,23 +3,35 @@
 use super::VERTICES;
 use crate::reference::{refuse, Answer, ARCS, COST};
 
+/// The number where there is no arc, or more than so many.
+pub fn check_count(arcs: usize, most: usize, number: u32) -> Answer<()> {
+    if arcs == 0 || arcs > most {
+        return refuse(number, 0);
+    }
+    Ok(())
+}
+
 /// 1 and 2; `lengths` are those of the lists beside the parents.
 pub fn check_lengths(parents: &[u16], lengths: &[usize]) -> Answer<()> {
     let arcs = parents.len();
-    if arcs == 0 || arcs > ARCS {
-        return refuse(1, 0);
-    }
+    check_count(arcs, ARCS, 1)?;
     if lengths.iter().any(|&length| length != arcs) {
         return refuse(2, 0);
     }
     Ok(())
 }
 
-/// 3 and 4 at an arc.
-pub fn check_arc(arc: usize, parent: u16, cost: u32) -> Answer<()> {
+/// 3 at an arc.
+pub fn check_parent(arc: usize, parent: u16) -> Answer<()> {
     if usize::from(parent) >= arc {
         return refuse(3, arc);
     }
+    Ok(())
+}
+
+/// 3 and 4 at an arc.
+pub fn check_arc(arc: usize, parent: u16, cost: u32) -> Answer<()> {
+    check_parent(arc, parent)?;
     if cost > COST {
         return refuse(4, arc);
     }

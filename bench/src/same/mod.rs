@@ -14,6 +14,7 @@ mod margin;
 mod needs;
 mod search;
 mod states;
+mod step;
 mod total;
 mod turns;
 mod writer;
@@ -30,6 +31,7 @@ pub use margin::split_margin;
 pub use needs::list_needs;
 pub use search::find_group;
 pub use states::{ask, commit, make_state};
+pub use step::{next_parents, SMALL};
 pub use total::check_total;
 pub use writer::{job_length, write_job};
 

@@ -89,3 +89,6 @@ pub const UNMARKED_DEAD_END: u32 = 29;
 
 // A floor is above 0.
 pub const FLOOR_ABOVE_ZERO: u32 = 30;
+
+// The list to step from has no entry, or more than 6.
+pub const SMALL_ARC_COUNT: u32 = 31;

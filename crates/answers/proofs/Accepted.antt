@@ -15,7 +15,8 @@ use Rattle.basics.proofs.Sums.{In, in-more, in-last, in-cases}
 use Rattle.answer_forms.specs.Answer.{Check, accepted, fault, _then_}
 use Rattle.answer_forms.proofs.Composed.{first-accepted, second-accepted, no-fault}
 use Rattle.limits.specs.Limits.{mostArcs, mostCost}
-use Rattle.answers.specs.Checks.{unlike, arcCountCheck, arcCheck, markCheck, oneByOne, treeCheck, lengthCheck}
+use Rattle.answers.specs.Checks.{unlike, countCheck, arcCountCheck, parentCheck, arcCheck, markCheck, oneByOne}
+use Rattle.answers.specs.Checks.{treeCheck, lengthCheck}
 
 -- a check that finds nothing arc by arc finds nothing at each arc
 pub each-accepted : (check : ℕ → Check) (m : ℕ) → oneByOne check m ≡ accepted → (k : ℕ) → In m k → check k ≡ accepted
@@ -32,13 +33,27 @@ all-accepted check zero h = refl
 all-accepted check (suc m) h = rw (all-accepted check m (λ k i. h k (in-more i))) (h (suc m) (in-last m))
 
 -- the number of arcs
-pub count-accepted : (ps : List ℕ) → arcCountCheck ps ≡ accepted → (0 < length ps) × (length ps ≤ mostArcs)
-count-accepted ps e =
-    let none = no-fault (eqb (length ps) 0 || ltb mostArcs (length ps)) 1 0 e in
-    let some = eqb-false (length ps) 0 (neither-first (eqb (length ps) 0) (ltb mostArcs (length ps)) none) in (
+pub count-accepted : (most number : ℕ) (ps : List ℕ) → countCheck most number ps ≡ accepted
+    → (0 < length ps) × (length ps ≤ most)
+count-accepted most number ps e =
+    let none = no-fault (eqb (length ps) 0 || ltb most (length ps)) number 0 e in
+    let some = eqb-false (length ps) 0 (neither-first (eqb (length ps) 0) (ltb most (length ps)) none) in (
       omega arith,
-      ltb-false mostArcs (length ps) (neither-second (eqb (length ps) 0) (ltb mostArcs (length ps)) none),
+      ltb-false most (length ps) (neither-second (eqb (length ps) 0) (ltb most (length ps)) none),
     )
+
+-- each parent is below its arc
+pub parents-accepted : (ps : List ℕ) → ((k : ℕ) → In (length ps) k → parentCheck ps k ≡ accepted)
+    → (v : ℕ) → ofArc ps (suc v) ≤ v
+parents-accepted ps each v =
+    elim (decLt v (length ps)) [
+      | yes h ↦ omega (
+        arith,
+        leb-false (suc v) (getD ps v 0)
+            (no-fault (leb (suc v) (getD ps v 0)) 3 (suc v) (each (suc v) (omega arith))),
+      )
+      | no h ↦ omega (arith, List·getD-eq-default ps 0 {n = v} (omega arith))
+    ]
 
 -- two lists that are not unlike
 pub alike : (a b : List ℕ) → unlike a b ≡ false → length a ≡ length b
@@ -51,34 +66,22 @@ pub record Arcs (parents costs : List ℕ) : Type 0 where
 
 module _ (ps cs : List ℕ) (same : length ps ≡ length cs)
     (each : (k : ℕ) → In (length ps) k → arcCheck ps cs k ≡ accepted) where
-  parent-fault : ℕ → Check
-  parent-fault k = fault (leb k (ofArc ps k)) 3 k
-
   cost-fault : ℕ → Check
   cost-fault k = fault (ltb mostCost (ofArc cs k)) 4 k
 
   rises : (v : ℕ) → ofArc ps (suc v) ≤ v
-  unfolding parent-fault cost-fault
-  rises v =
-      elim (decLt v (length ps)) [
-        | yes h ↦ omega (
-          arith,
-          leb-false (suc v) (getD ps v 0)
-              (no-fault (leb (suc v) (getD ps v 0)) 3 (suc v)
-              (first-accepted (parent-fault (suc v)) (cost-fault (suc v)) (each (suc v) (omega arith)))),
-        )
-        | no h ↦ omega (arith, List·getD-eq-default ps 0 {n = v} (omega arith))
-      ]
+  unfolding cost-fault
+  rises = parents-accepted ps (λ k i. first-accepted (parentCheck ps k) (cost-fault k) (each k i))
 
   stays : (k : ℕ) → ofArc cs k ≤ mostCost
-  unfolding parent-fault cost-fault
+  unfolding cost-fault
   stays zero = omega arith
   stays (suc v) =
       elim (decLt v (length ps)) [
         | yes h ↦
             ltb-false mostCost (getD cs v 0)
             (no-fault (ltb mostCost (getD cs v 0)) 4 (suc v)
-            (second-accepted (parent-fault (suc v)) (cost-fault (suc v)) (each (suc v) (omega arith))))
+            (second-accepted (parentCheck ps (suc v)) (cost-fault (suc v)) (each (suc v) (omega arith))))
         | no h ↦ omega (arith, List·getD-eq-default cs 0 {n = v} (omega arith))
       ]
 
@@ -123,7 +126,7 @@ module _ (t : Tree) (e : treeCheck t ≡ accepted) where
   count-check = first-accepted (arcCountCheck ps) (lengths then after-lengths) e
 
   counted : (0 < length ps) × (length ps ≤ mostArcs)
-  counted = count-accepted ps count-check
+  counted = count-accepted mostArcs 1 ps count-check
 
   not-unlike : (unlike ps (t .costs) || unlike ps ms) ≡ false
   not-unlike =

@@ -13,6 +13,10 @@ pub mod LevelKeys
 pub mod RunningSums
 pub mod CapSumsLaws
 pub mod LevelStops
+pub mod ParentOrder
+pub mod ParentPlaces
+pub mod ParentSteps
+pub mod ParentListsLaws
 pub mod Table
 pub mod InRange
 mod InTurn

@@ -1,5 +1,7 @@
 -- The table, by evaluation.
 use mathlib.Core.Path.{refl}
+use mathlib.Core.List.{flatMap}
+use mathlib.Core.Option.{Option·elim}
 use Rattle.game.specs.Network.{climb, used, groupCost, sumBelow, wholeCost, membersTo}
 use Rattle.game.specs.Tree.{hasChild, deadEnds, countedCosts}
 use Rattle.basics.specs.Bit.{bit}
@@ -7,7 +9,7 @@ use Rattle.basics.specs.Sum.{size, entries}
 use Rattle.game.specs.Group.{wordsOf}
 use Rattle.game.specs.Proposal.{pays}
 use Rattle.game.specs.Search.{groups, best, named}
-use Rattle.answers.specs.Checks.{oneByOne, treeCheck, plainCheck, bitsCheck, rangeCheck}
+use Rattle.answers.specs.Checks.{oneByOne, treeCheck, plainCheck, smallCheck, bitsCheck, rangeCheck}
 use Rattle.answers.specs.DeadEnds.{deadEndsAnswer, deadEndsList}
 use Rattle.answers.specs.Members.{memberCountAnswer, membersAnswer, membersList}
 use Rattle.answers.specs.Needs.{needsAnswer, needsList}
@@ -26,15 +28,17 @@ use Rattle.answers.specs.Margin.{marginAnswer, marginList}
 use Rattle.answers.specs.States.{padded, madeState, treeIn, stateCheck}
 use Rattle.answers.specs.Events.{outcomeCheck, eventCheck}
 use Rattle.answers.specs.Quotes.{askAnswer, askedShares, commitCheck, commitAnswer, committedState}
+use Rattle.answers.specs.ParentLists.{precedes, parentLists, firstAfter, following, stepAnswer, stepList}
 use Rattle.answers.specs.Table.{Table}
 
 pub table : Table
-unfolding climb used groupCost sumBelow wholeCost membersTo hasChild deadEnds countedCosts bit size entries wordsOf pays
-    groups best named oneByOne treeCheck plainCheck deadEndsAnswer deadEndsList bitsCheck rangeCheck
+unfolding climb used groupCost sumBelow wholeCost membersTo hasChild deadEnds countedCosts bit size entries wordsOf
+    pays groups best named oneByOne treeCheck plainCheck deadEndsAnswer deadEndsList bitsCheck rangeCheck
     memberCountAnswer membersAnswer membersList needsAnswer needsList groupCostAnswer totalAnswer searchAnswer
     searchWords firstLeast units arcsDown splitFrom levelAnswer levelList tallied giveArc handled byArcAnswer
     byArcList capSumsAnswer capSumsList padded madeState treeIn stateCheck outcomeCheck eventCheck askAnswer
-    askedShares commitCheck commitAnswer committedState greatest branchMarks inwardWithin widest marginAnswer marginList
+    askedShares commitCheck commitAnswer committedState greatest branchMarks inwardWithin widest marginAnswer
+    marginList smallCheck flatMap Option·elim precedes parentLists firstAfter following stepAnswer stepList
 table =
     record {
       T-members = refl;
@@ -164,4 +168,18 @@ table =
       no-state-ask = refl;
       no-state = refl;
       no-state-other = refl;
+      three-arcs = refl;
+      step-000 = (refl, refl);
+      step-001 = (refl, refl);
+      step-002 = (refl, refl);
+      step-010 = (refl, refl);
+      step-011 = (refl, refl);
+      step-012 = (refl, refl);
+      step-one-arc = (refl, refl);
+      step-carry = (refl, refl);
+      step-no-arc = (refl, refl);
+      step-seven-arcs = (refl, refl);
+      step-own-parent = (refl, refl);
+      step-two-faults = (refl, refl);
+      step-greatest-entry = (refl, refl);
     }

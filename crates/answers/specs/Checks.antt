@@ -8,20 +8,28 @@ use lib.Dec.{eqb, ltb, leb}
 use Rattle.game.specs.Tree.{Tree, ofArc, hasChild, marked}
 use Rattle.basics.specs.Sum.{some}
 use Rattle.basics.specs.Bit.{bit}
-use Rattle.limits.specs.Limits.{mostArcs, groupBits, mostCost, mostShare}
+use Rattle.limits.specs.Limits.{mostArcs, mostSmallArcs, groupBits, mostCost, mostShare}
 use Rattle.answer_forms.specs.Answer.{Check, accepted, fault, _then_}
 
 -- two lists differ in length
 abbrev pub unlike : List ℕ → List ℕ → Bool
 unlike a b = not (eqb (length a) (length b))
 
+-- there is no arc, or more than so many
+abbrev pub countCheck : ℕ → ℕ → List ℕ → Check
+countCheck most number parents = fault (eqb (length parents) 0 || ltb most (length parents)) number 0
+
 -- 1: there is no arc, or more than 1,023
 abbrev pub arcCountCheck : List ℕ → Check
-arcCountCheck parents = fault (eqb (length parents) 0 || ltb mostArcs (length parents)) 1 0
+arcCountCheck = countCheck mostArcs 1
 
--- at arc k: 3 where the parent is not below it, then 4 where the cost is above the limit
+-- at arc k: 3 where the parent is not below it
+abbrev pub parentCheck : List ℕ → ℕ → Check
+parentCheck parents k = fault (leb k (ofArc parents k)) 3 k
+
+-- at arc k: 3, then 4 where the cost is above the limit
 abbrev pub arcCheck : List ℕ → List ℕ → ℕ → Check
-arcCheck parents costs k = fault (leb k (ofArc parents k)) 3 k then fault (ltb mostCost (ofArc costs k)) 4 k
+arcCheck parents costs k = parentCheck parents k then fault (ltb mostCost (ofArc costs k)) 4 k
 
 -- at vertex k: 16 where the mark is neither 0 nor 1, then 17 where it is 1 and some entry names the vertex as a parent
 abbrev pub markCheck : List ℕ → List ℕ → ℕ → Check
@@ -47,6 +55,10 @@ plainCheck parents costs =
     arcCountCheck parents
     then fault (unlike parents costs) 2 0
     then oneByOne (arcCheck parents costs) (length parents)
+
+-- a parent list by itself: 31 where it has no arc or more than 6, then 3 arc by arc
+unfoldable pub smallCheck : List ℕ → Check
+smallCheck parents = countCheck mostSmallArcs 31 parents then oneByOne (parentCheck parents) (length parents)
 
 -- 5 at the lowest bit that is set from bit j on, with f bits left to look at
 unfoldable pub bitsCheck : List ℕ → ℕ → ℕ → Check

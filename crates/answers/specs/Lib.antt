@@ -11,6 +11,7 @@ pub mod States
 pub mod Events
 pub mod Quotes
 pub mod DeadEnds
+pub mod ParentLists
 pub mod Limits
 pub mod Laws
 pub mod AuditLaws
@@ -22,5 +23,6 @@ pub mod ByArcLaws
 pub mod MarginLaws
 pub mod EventLaws
 pub mod QuoteLaws
+pub mod ParentListsLaws
 pub mod Unused
 pub mod Table

@@ -5,7 +5,7 @@ use mathlib.Core.List.{List, [], _∷_}
 use lib.ListN.{replicate}
 use lib.IntN.{pos, negsuc}
 use Rattle.game.specs.Tree.{Tree, treeOf, deadEndTree}
-use Rattle.answer_forms.specs.Answer.{value, refusal as no}
+use Rattle.answer_forms.specs.Answer.{Answer, value, refusal as no}
 use Rattle.answers.specs.DeadEnds.{deadEndsAnswer, deadEndsList}
 use Rattle.answers.specs.Members.{memberCountAnswer, membersAnswer, membersList}
 use Rattle.answers.specs.Needs.{needsAnswer, needsList}
@@ -17,6 +17,7 @@ use Rattle.answers.specs.ByArc.{byArcAnswer, byArcList}
 use Rattle.answers.specs.Margin.{MarginValue, marginAnswer, marginList}
 use Rattle.answers.specs.States.{State, noState, madeState}
 use Rattle.answers.specs.Events.{arrive, leave, newCost, eventAt}
+use Rattle.answers.specs.ParentLists.{Step, next, end, parentLists, stepAnswer, stepList}
 use Rattle.answers.specs.Quotes.{Quote, quoteAt, askAnswer, askedShares, commitAnswer, committedState}
 
 -- the tree T of the specification, §10
@@ -100,6 +101,17 @@ leaving v = quoteAt (eventAt v leave)
 
 abbrev pub arriving : (v n : ℕ) → Quote
 arriving v = quoteAt (eventAt v arrive)
+
+-- a step from one parent list to another, and one that leaves the list as it came
+abbrev pub Steps : List ℕ → List ℕ → Type 0
+Steps l l′ = (stepAnswer l ≡ value next) × (stepList l ≡ l′)
+
+abbrev pub Stays : List ℕ → Answer Step → Type 0
+Stays l answered = (stepAnswer l ≡ answered) × (stepList l ≡ l)
+
+-- the parents of three arcs
+abbrev pub three : ℕ → ℕ → ℕ → List ℕ
+three a b c = a ∷ b ∷ c ∷ []
 
 pub record Table : Type 0 where
   pub T-members : memberCountAnswer T ≡ value 3
@@ -237,3 +249,20 @@ pub record Table : Type 0 where
   pub no-state-ask : askAnswer noState (eventAt 1 arrive) ≡ no 1 0
   pub no-state : commitAnswer noState (arriving 1 0) ≡ no 1 0
   pub no-state-other : commitAnswer noState (arriving 1 1) ≡ no 23 0
+  -- all parent lists
+  pub three-arcs : parentLists 3
+      ≡ three 0 0 0 ∷ three 0 0 1 ∷ three 0 0 2 ∷ three 0 1 0 ∷ three 0 1 1 ∷ three 0 1 2 ∷ []
+  pub step-000 : Steps (three 0 0 0) (three 0 0 1)
+  pub step-001 : Steps (three 0 0 1) (three 0 0 2)
+  pub step-002 : Steps (three 0 0 2) (three 0 1 0)
+  pub step-010 : Steps (three 0 1 0) (three 0 1 1)
+  pub step-011 : Steps (three 0 1 1) (three 0 1 2)
+  pub step-012 : Stays (three 0 1 2) (value end)
+  pub step-one-arc : Stays (0 ∷ []) (value end)
+  pub step-carry : Steps (0 ∷ 0 ∷ 2 ∷ 3 ∷ 4 ∷ []) (0 ∷ 1 ∷ 0 ∷ 0 ∷ 0 ∷ [])
+  pub step-no-arc : Stays [] (no 31 0)
+  -- 31 before 3, and 3 at the lowest arc
+  pub step-seven-arcs : Stays (lent 7) (no 31 0)
+  pub step-own-parent : Stays (1 ∷ []) (no 3 1)
+  pub step-two-faults : Stays (0 ∷ 1 ∷ 3 ∷ 3 ∷ 5 ∷ []) (no 3 3)
+  pub step-greatest-entry : Stays (0 ∷ 65535 ∷ []) (no 3 2)

@@ -1,7 +1,7 @@
 -- No check refuses with number 0, so what it finds can be read back from its struct.
 use Prim.Native.Nat.{ℕ, zero, suc, pred, _+_}
 use mathlib.Core.Path.{_≡_, refl, subst}
-use mathlib.Core.Bool.{Bool, not}
+use mathlib.Core.Bool.{Bool, not, _||_}
 use mathlib.Core.List.{List, [], _∷_}
 use lib.ListN.{length}
 use lib.Dec.{eqb, ltb, leb}
@@ -10,9 +10,9 @@ use Rattle.game.specs.ByArc.{userCount}
 use Rattle.basics.specs.Bit.{bit}
 use Rattle.answer_forms.specs.Answer.{Check, fault, _then_}
 use Rattle.answer_forms.proofs.Composed.{fault-holds, then-holds}
-use Rattle.limits.specs.Limits.{mostEvents}
+use Rattle.limits.specs.Limits.{mostSmallArcs, mostEvents}
 use Rattle.answers.specs.Checks.{oneByOne, treeCheck, plainCheck, bitsCheck, rangeCheck}
-use Rattle.answers.specs.Checks.{memberListCheck, outputCheck}
+use Rattle.answers.specs.Checks.{parentCheck, smallCheck, memberListCheck, outputCheck}
 use Rattle.answers.specs.Level.{outsideCap, capsCheck, floorsCheck, limitsCheck}
 use Rattle.answers.specs.Margin.{leavesSource, marginCheck}
 use Rattle.answers.specs.States.{State}
@@ -91,3 +91,10 @@ margin-kept t arc out =
     then-kept (treeCheck t) _ (tree-kept t)
     (fault-then-kept (not (leavesSource (t .parents) arc)) 24 arc _
     (fault-then-kept (ltb users 2) 25 arc (outputCheck users out) (output-kept users out)))
+
+pub small-kept : (parents : List ℕ) → Kept (smallCheck parents)
+unfolding smallCheck
+small-kept parents =
+    let few = eqb (length parents) 0 || ltb mostSmallArcs (length parents) in
+    fault-then-kept few 30 0 (oneByOne (parentCheck parents) (length parents))
+    (ones-kept (parentCheck parents) (λ k. fault-kept (leb k (ofArc parents k)) 2 k) (length parents))

@@ -10,7 +10,8 @@ use Rattle.game.specs.Network.{memberCount}
 use Rattle.game.specs.Tree.{Tree, network}
 use Rattle.game.specs.Proposal.{difference}
 use Rattle.answer_forms.specs.Answer.{Check, accepted, refused, Answer, value, refusal, _then_, answer}
-use Rattle.answers.specs.Checks.{treeCheck, plainCheck, groupCheck, outputCheck, proposalCheck, outsideShare}
+use Rattle.answers.specs.Checks.{treeCheck, plainCheck, smallCheck, groupCheck, outputCheck, proposalCheck}
+use Rattle.answers.specs.Checks.{outsideShare}
 use Rattle.answers.specs.DeadEnds.{deadEndsCheck, deadEndsAnswer}
 use Rattle.answers.specs.Members.{memberCountAnswer, membersCheck, membersAnswer}
 use Rattle.answers.specs.Needs.{needsAnswer}
@@ -20,6 +21,7 @@ use Rattle.answers.specs.Level.{outsideCap, capsCheck}
 use Rattle.answers.specs.CapSums.{capSumsAnswer}
 use Rattle.answers.specs.ByArc.{byArcAnswer}
 use Rattle.answers.specs.Margin.{marginAnswer}
+use Rattle.answers.specs.ParentLists.{Step, next, end, stepAnswer}
 use Rattle.answers.specs.States.{State as HeldState}
 use Rattle.answers.specs.Events.{Change, arrive, leave, newCost, Event, eventAt, applyCheck}
 use Rattle.answers.specs.Quotes.{Quote, quoteAt, QuoteValue, askAnswer, commitCheck, commitAnswer}
@@ -29,12 +31,12 @@ use Rattle.capi.specs.declared.states.ZilqodurStateAnswer.{ZilqodurState
 use Rattle.capi.specs.declared.quotes.ZilqodurQuoteAnswer.{ZilqodurQuoteAnswer}
 use Rattle.capi.specs.Structs.{encodeMembers, decodeMembers, encodeNeeds, decodeNeeds, encodeGroup, decodeGroup}
 use Rattle.capi.specs.Structs.{encodeTotal, decodeTotal, encodeSearch, decodeSearch, VerdictUnlessRefused}
-use Rattle.capi.specs.Structs.{encodeMargin, decodeMargin}
+use Rattle.capi.specs.Structs.{encodeMargin, decodeMargin, encodeStep, decodeStep}
 use Rattle.capi.specs.Structs.{encodeCapSums, decodeCapSums}
 use Rattle.capi.specs.Structs.{encodeState, decodeState, encodeEvent, eventBy, encodeQuote, quoteBy}
 use Rattle.capi.specs.Structs.{encodeAsked, decodeAsked}
 use Rattle.capi.proofs.Kept.{Kept, then-kept, tree-kept, plain-kept, bits-kept, list-kept, output-kept}
-use Rattle.capi.proofs.Kept.{margin-kept, apply-kept, commit-kept}
+use Rattle.capi.proofs.Kept.{margin-kept, small-kept, apply-kept, commit-kept}
 
 -- s is the struct of an answer that can be read back: what it stands for, and that its other fields are 0
 pub stands-for : {A S : Type 0} (encode : A → S) (decode : S → A) {a found : A} {s : S} → s ≡ encode found → found ≡ a
@@ -160,6 +162,22 @@ unfolding totalAnswer
 total-verdict t shares =
     verdict-unless encodeTotal (λ s. s .verdict) (λ s. s .refusal) total-found-verdict
     (λ n place. rw (eqb·suc-zero n)) (auditCheck t shares) (difference (network t) shares) (audit-kept t shares)
+
+pub step-back : (a : Answer Step) → decodeStep (encodeStep a) ≡ a
+step-back (value next) = refl
+step-back (value end) = refl
+step-back (refusal number place) = refl
+
+stepped-verdict : (s : Step) → VerdictUnlessRefused (encodeStep (value s) .verdict) (encodeStep (value s) .refusal)
+stepped-verdict next = refl
+stepped-verdict end = refl
+
+pub step-verdict : (parents : List ℕ)
+    → VerdictUnlessRefused (encodeStep (stepAnswer parents) .verdict) (encodeStep (stepAnswer parents) .refusal)
+unfolding stepAnswer
+step-verdict parents =
+    verdict-unless encodeStep (λ s. s .verdict) (λ s. s .refusal) stepped-verdict (λ n place. rw (eqb·suc-zero n))
+    (smallCheck parents) _ (small-kept parents)
 
 -- the tree, caps and an output list of a wanted length
 caps-kept : (t : Tree) (caps out : List ℕ) (wanted : ℕ)

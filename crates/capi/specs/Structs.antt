@@ -12,6 +12,7 @@ use Rattle.answers.specs.GroupCost.{GroupCostValue}
 use Rattle.answers.specs.Audit.{Verdict, found, none}
 use Rattle.answers.specs.Level.{LevelAnswer, split, refusal as notSplit}
 use Rattle.answers.specs.Margin.{MarginValue}
+use Rattle.answers.specs.ParentLists.{Step, next, end}
 use Rattle.answers.specs.Events.{Change, arrive, leave, newCost, Event, eventAt}
 use Rattle.answers.specs.Quotes.{Quote, QuoteValue}
 use Rattle.numbers.specs.Signed.{isZero}
@@ -26,6 +27,7 @@ use Rattle.capi.specs.declared.total.ZilqodurTotal.{ZilqodurTotal}
 use Rattle.capi.specs.declared.cap_sums.ZilqodurCapSums.{ZilqodurCapSums}
 use Rattle.capi.specs.declared.level_split.ZilqodurLevel.{ZilqodurLevel}
 use Rattle.capi.specs.declared.margin_split.ZilqodurMargin.{ZilqodurMargin}
+use Rattle.capi.specs.declared.parent_step.ZilqodurStep.{ZilqodurStep}
 use Rattle.capi.specs.declared.states.ZilqodurEvent.{ZilqodurEvent}
 use Rattle.capi.specs.declared.states.ZilqodurStateAnswer.{ZilqodurStateAnswer}
 use Rattle.capi.specs.declared.quotes.ZilqodurQuote.{ZilqodurQuote}
@@ -105,6 +107,21 @@ totalBy s (suc n) = value (s .difference)
 
 abbrev pub decodeTotal : ZilqodurTotal → Answer ℤ
 decodeTotal s = totalBy s (s .verdict)
+
+-- the verdict is 0 in a refusal, 1 where a list follows, 2 at the end
+abbrev pub encodeStep : Answer Step → ZilqodurStep
+encodeStep (value next) = record { refusal = 0; place = 0; verdict = 1 }
+encodeStep (value end) = record { refusal = 0; place = 0; verdict = 2 }
+encodeStep (refusal number place) = record { refusal = number; place = place; verdict = 0 }
+
+-- what the struct stands for, by its verdict
+abbrev pub stepBy : ZilqodurStep → (verdict : ℕ) → Answer Step
+stepBy s zero = refusal (s .refusal) (s .place)
+stepBy s (suc zero) = value next
+stepBy s (suc (suc n)) = value end
+
+abbrev pub decodeStep : ZilqodurStep → Answer Step
+decodeStep s = stepBy s (s .verdict)
 
 -- the verdict is 0 exactly where the refusal is not
 abbrev pub VerdictUnlessRefused : (verdict number : ℕ) → Type 0

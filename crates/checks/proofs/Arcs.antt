@@ -9,9 +9,13 @@ use lib.Dec.{eqb, ltb, leb}
 use Rattle.limits.specs.Limits.{mostCost}
 use Rattle.game.specs.Tree.{hasChild}
 use Rattle.answer_forms.specs.Answer.{Check, fault, _then_}
-use Rattle.answers.specs.Checks.{arcCheck, markCheck}
+use Rattle.answers.specs.Checks.{parentCheck, arcCheck, markCheck}
 
 -- what is found at the arc after i, by its entries
+module _ (ps : List ℕ) (i : ℕ) {found : Check} where
+  pub parent-here : found ≡ fault (leb (i + 1) (getD ps i 0)) 3 (i + 1) → found ≡ parentCheck ps (suc i)
+  parent-here e = e ∙ ap (λ (k : ℕ). fault (leb k (getD ps i 0)) 3 k) (add-one i)
+
 module _ (ps cs : List ℕ) (i : ℕ) {found : Check} where
   pub arc-here : found ≡ (fault (leb (i + 1) (getD ps i 0)) 3 (i + 1) then fault (ltb mostCost (getD cs i 0)) 4 (i + 1))
       → found ≡ arcCheck ps cs (suc i)

@@ -1,5 +1,5 @@
-// The checks of lists as they are handed in: a tree with its marks and without, caps, floors, a proposal, a branch's
-// arc, an output list.
+// The checks of lists as they are handed in: a tree with its marks and without, a parent list, caps, floors, a
+// proposal, a branch's arc, an output list.
 mod arc;
 mod branch;
 mod caps;
@@ -8,6 +8,7 @@ mod mark;
 mod output;
 mod plain;
 mod proposal;
+mod small;
 mod tree;
 
 pub use branch::check_branch_arc;
@@ -17,4 +18,5 @@ pub use floors::check_limits;
 pub use output::check_output;
 pub use plain::check_plain;
 pub use proposal::check_proposal;
+pub use small::check_small;
 pub use tree::check_tree;

@@ -4,6 +4,7 @@ use crate::arc::check_count;
 use answer_forms::Checked;
 use answer_forms::refusals;
 use answer_forms::refuse;
+use limits::MOST_ARCS;
 ghost use mathlib.Core.Path.{_≡_};
 ghost use lib.ListN.{length};
 ghost use Rattle.answers.specs.Checks.{plainCheck, oneByOne, arcCheck};
@@ -29,7 +30,7 @@ fn check_arcs(parents: &[u16], costs: &[u32]) -> Checked
 pub fn check_plain(parents: &[u16], costs: &[u32]) -> Checked
     ensures { λ r. ⌜ checkOf r ≡ plainCheck (now (parents .entry)) (now (costs .entry)) ⌝ }
 {
-    let count = check_count(parents.len());
+    let count = check_count(parents.len(), MOST_ARCS, refusals::ARC_COUNT);
     let Checked::Accepted = count else {
         return count;
     };

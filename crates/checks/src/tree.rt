@@ -6,6 +6,7 @@ use crate::mark::check_someone;
 use answer_forms::Checked;
 use answer_forms::refusals;
 use answer_forms::refuse;
+use limits::MOST_ARCS;
 ghost use mathlib.Core.Path.{_≡_};
 ghost use Prim.Native.Nat.{_≤_};
 ghost use mathlib.Core.Bool.{_&&_};
@@ -56,7 +57,7 @@ pub fn check_tree(parents: &[u16], costs: &[u32], marks: &[u16]) -> Checked
     ensures { λ r. ⌜ checkOf r
         ≡ treeCheck (treeOf (now (parents .entry)) (now (costs .entry)) (now (marks .entry))) ⌝ }
 {
-    let count = check_count(parents.len());
+    let count = check_count(parents.len(), MOST_ARCS, refusals::ARC_COUNT);
     let Checked::Accepted = count else {
         return count;
     };

@@ -8,11 +8,12 @@ use Rattle.answers.specs.GroupCost.{GroupCostValue}
 use Rattle.answers.specs.Audit.{Verdict, found, none}
 use Rattle.answers.specs.Level.{LevelAnswer, split, refusal as notSplit}
 use Rattle.answers.specs.Margin.{MarginValue}
+use Rattle.answers.specs.ParentLists.{Step, next, end}
 use Rattle.answer_forms.specs.Checked.{checkOf}
 use Rattle.answer_forms.specs.declared.Checked.{Checked}
 use Rattle.answer_forms.specs.declared.Checked.the-variants.{Accepted, Refused as NotAccepted}
 use Rattle.engine.specs.Outcomes.{memberCountOf, needsOf, groupCostOf, totalOf, searchOf, capSumsOf, levelOf}
-use Rattle.engine.specs.Outcomes.{marginOf}
+use Rattle.engine.specs.Outcomes.{marginOf, stepOf}
 use Rattle.engine.specs.declared.members.MemberCount.{MemberCount}
 use Rattle.engine.specs.declared.members.MemberCount.the-variants.{Members, Refused as NoMembers}
 use Rattle.engine.specs.declared.needs.NeedsFound.{NeedsFound}
@@ -29,6 +30,8 @@ use Rattle.engine.specs.declared.level_split.LevelSplit.{LevelSplit}
 use Rattle.engine.specs.declared.level_split.LevelSplit.the-variants.{Split, Refused as NoSplit}
 use Rattle.engine.specs.declared.margin_split.MarginSplit.{MarginSplit}
 use Rattle.engine.specs.declared.margin_split.MarginSplit.the-variants.{Split as Widest, Refused as NoMargin}
+use Rattle.engine.specs.declared.parent_step.Stepped.{Stepped}
+use Rattle.engine.specs.declared.parent_step.Stepped.the-variants.{Next, End, Refused as NoStep}
 
 read-back : {A B : Type 0} (of : A → B) (back : B → A) → ((a : A) → back (of a) ≡ a) → (a b : A) → of a ≡ of b → a ≡ b
 read-back of back is a b e = sym (is a) ∙ ap back e ∙ is b
@@ -133,3 +136,16 @@ margin-is (NoMargin r) = refl
 
 pub margin-one-to-one : (a b : MarginSplit) → marginOf a ≡ marginOf b → a ≡ b
 margin-one-to-one = read-back marginOf margin-back margin-is
+
+abbrev step-back : Answer Step → Stepped
+step-back (value next) = Next
+step-back (value end) = End
+step-back (refusal number place) = NoStep (record { number = number; place = place })
+
+step-is : (a : Stepped) → step-back (stepOf a) ≡ a
+step-is Next = refl
+step-is End = refl
+step-is (NoStep r) = refl
+
+pub step-one-to-one : (a b : Stepped) → stepOf a ≡ stepOf b → a ≡ b
+step-one-to-one = read-back stepOf step-back step-is

@@ -6,6 +6,7 @@ use Rattle.answers.specs.Needs.{NeedsValue}
 use Rattle.answers.specs.GroupCost.{GroupCostValue}
 use Rattle.answers.specs.Audit.{Verdict, found, none}
 use Rattle.answers.specs.Margin.{MarginValue}
+use Rattle.answers.specs.ParentLists.{Step, next, end}
 use Rattle.answers.specs.Level.{LevelAnswer, split, refusal as notSplit}
 use Rattle.engine.specs.declared.members.MemberCount.{MemberCount}
 use Rattle.engine.specs.declared.members.MemberCount.the-variants.{Members, Refused as NoMembers}
@@ -23,6 +24,8 @@ use Rattle.engine.specs.declared.level_split.LevelSplit.{LevelSplit}
 use Rattle.engine.specs.declared.level_split.LevelSplit.the-variants.{Split, Refused as NoSplit}
 use Rattle.engine.specs.declared.margin_split.MarginSplit.{MarginSplit}
 use Rattle.engine.specs.declared.margin_split.MarginSplit.the-variants.{Split as Widest, Refused as NoMargin}
+use Rattle.engine.specs.declared.parent_step.Stepped.{Stepped}
+use Rattle.engine.specs.declared.parent_step.Stepped.the-variants.{Next, End, Refused as NoStep}
 
 abbrev pub memberCountOf : MemberCount → Answer ℕ
 memberCountOf (Members n) = value n
@@ -56,3 +59,8 @@ levelOf (NoSplit number place shortfall) = notSplit number place shortfall
 abbrev pub marginOf : MarginSplit → Answer MarginValue
 marginOf (Widest margin users) = value (record { margin = margin; users = users })
 marginOf (NoMargin r) = refusal (r .number) (r .place)
+
+abbrev pub stepOf : Stepped → Answer Step
+stepOf Next = value next
+stepOf End = value end
+stepOf (NoStep r) = refusal (r .number) (r .place)

@@ -8,6 +8,7 @@ mod margin_split;
 mod marks;
 mod members;
 mod needs;
+mod parent_step;
 mod proposed;
 mod total;
 
@@ -35,5 +36,7 @@ pub use members::count_members;
 pub use members::list_members;
 pub use needs::NeedsFound;
 pub use needs::list_needs;
+pub use parent_step::Stepped;
+pub use parent_step::next_parents;
 pub use total::TotalFound;
 pub use total::check_total;

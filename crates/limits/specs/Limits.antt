@@ -1,9 +1,13 @@
--- The limits (docs/SPECIFICATION.md, §1, §4, §5, §11).
+-- The limits (docs/SPECIFICATION.md, §1, §4, §5, §11, §13).
 use Prim.Native.Nat.{ℕ}
 
 -- the most arcs of a tree, and so the most members
 abbrev pub mostArcs : ℕ
 mostArcs = 1023
+
+-- the most arcs for which all networks are stepped through
+abbrev pub mostSmallArcs : ℕ
+mostSmallArcs = 6
 
 -- the bits of a group's sixteen words
 abbrev pub groupBits : ℕ

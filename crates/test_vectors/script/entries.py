@@ -31,6 +31,7 @@ from by_arc import by_arc_split
 from job_entries import JOB_LINES
 from level import level_split
 from margin import margin_split
+from parent_lists import check_small, lists_from
 from shown import UNTOUCHED, EachByte, shown, trimmed
 from states import make_state
 from steps import first_state, outcomes
@@ -138,6 +139,15 @@ def answer_caps(count, caps):
     return "accepted"
 
 
+def answer_next(parents):
+    check_small(parents)
+    _, *later = lists_from(parents)
+    if not later:
+        return "end"
+    parents[:] = later[0]
+    return "next"
+
+
 ENTRIES = {
     "check": answer_check,
     "count": answer_count,
@@ -153,6 +163,7 @@ ENTRIES = {
     "deadends": answer_dead_ends,
     "capsums": answer_cap_sums,
     "margin": answer_margin,
+    "next": answer_next,
 }
 
 # the commands whose last field is the length of an output list
@@ -180,8 +191,15 @@ def answer_state(tree, steps):
     return f"{line}; {answer_steps(first_state(tree), steps)}"
 
 
+def answer_walk(parents):
+    """How many lists there are from this one on, and the answer at the last; a list that is refused is the only one."""
+    refusal = refusal_of(check_small, parents)
+    lists = [parents] if refusal else lists_from(parents)
+    return f"lists {len(lists)}, {refusal or 'end'}: {shown(lists[-1])}"
+
+
 # the commands that print more than an answer and a list
-WHOLE_LINES = {"state": answer_state, "events": answer_steps, **JOB_LINES}
+WHOLE_LINES = {"walk": answer_walk, "state": answer_state, "events": answer_steps, **JOB_LINES}
 
 
 def each_byte(case):
@@ -206,6 +224,8 @@ def line_of(case):
         beside = [[UNTOUCHED] * fields.pop()]
     if command == "search":
         beside = [[0] * WORDS]
+    if command == "next":
+        beside = [list(fields.pop())]
     try:
         line = ENTRIES[command](*fields, *beside)
     except Refusal as refusal:

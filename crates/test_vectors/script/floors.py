@@ -13,7 +13,7 @@ from rules import (
     member_count,
     whole_cost,
 )
-from networks import T, T_SPARE, U, W, broom, chain, comb, random_bounds, random_tree, star, thinned
+from networks import T, T_SPARE, U, W, broom, chain, comb, random_bounds, random_tree, star, thinned, with_entry
 from trees import FAULTY
 from level import all_lists, level_split
 from levels import GREATEST, level_of
@@ -41,11 +41,6 @@ STATED_FLOORS = [
     (("level", T_SPARE, [100, 100], [7, 0], 2), "split 2: 7,4"),
     (("level", T_SPARE, [100, 100], [8, 0], 2), "refused 28 at 1 short 0: 9,9"),
 ]
-
-
-def with_entry(entries, place, entry):
-    """The list with another entry in one place."""
-    return [*entries[:place], entry, *entries[place + 1 :]]
 
 
 def one_floor(tree, j, floor):

@@ -18,11 +18,6 @@ NOTES = [b"", b"x", bytes(range(255)), b"\xff" * 255]
 MOST_OUTPUT = 33_500
 
 
-def with_entry(entries, place, entry):
-    """The list with another entry at a place."""
-    return [*entries[:place], entry, *entries[place + 1 :]]
-
-
 class Version:
     """The jobs of a version. `seconds` has the second numbers of arc rows that are not the usual ones, by arc."""
 

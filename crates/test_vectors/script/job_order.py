@@ -4,7 +4,8 @@ from itertools import combinations, product
 from rules import MOST_ARCS
 from entries import answer
 from job import TRAILER
-from job_cases import BEYOND_CAP, BEYOND_SHARE, LARGE, LEAST, T_ARCS, one, two, with_entry
+from job_cases import BEYOND_CAP, BEYOND_SHARE, LARGE, LEAST, T_ARCS, one, two
+from networks import with_entry
 
 PARENT, SECOND_NUMBER, COST = range(3)
 CAP, SHARE, FLOOR = range(3)

@@ -3,9 +3,9 @@ import random
 
 from rules import MOST_ARCS, MOST_CAP, Tree
 from job import FIRST, MOST_NOTE, SECOND, TRAILER, held_job
-from job_cases import BEYOND_CAP, LARGE, LEAST, T_ARCS, one, two, with_entry
+from job_cases import BEYOND_CAP, LARGE, LEAST, T_ARCS, one, two
 from marks import SPARE, badly_marked, lists
-from networks import T, broom, chain, random_bounds, random_proposal, random_tree, star, thinned
+from networks import T, broom, chain, random_bounds, random_proposal, random_tree, star, thinned, with_entry
 from shown import EachByte
 
 

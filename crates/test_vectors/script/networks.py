@@ -38,6 +38,11 @@ def broom(arcs):
     return chain(handle) + [handle] * (arcs - handle)
 
 
+def with_entry(entries, place, entry):
+    """The list with another entry at a place."""
+    return [*entries[:place], entry, *entries[place + 1 :]]
+
+
 def all_groups(count):
     return [words_of(j for j in range(count) if g >> j & 1) for g in range(1 << count)]
 

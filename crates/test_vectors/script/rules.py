@@ -51,10 +51,15 @@ def check_lengths(parents, *others):
         raise Refusal(2)
 
 
-def check_arc(arc, parent, cost):
-    """3, then 4."""
+def check_parent(arc, parent):
+    """3."""
     if not parent < arc:
         raise Refusal(3, arc)
+
+
+def check_arc(arc, parent, cost):
+    """3, then 4."""
+    check_parent(arc, parent)
     if cost > MOST_COST:
         raise Refusal(4, arc)
 

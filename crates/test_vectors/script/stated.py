@@ -4,6 +4,7 @@ from networks import T, T_SPARE, U, W, chain
 from trees import LARGE, proposed
 from floors import STATED_FLOORS
 from margins import STATED_MARGINS
+from next_parents import STATED_PARENTS
 from stated_events import STATED_EVENTS
 from stated_jobs import STATED_JOBS
 from stated_quotes import STATED_QUOTES
@@ -62,6 +63,7 @@ STATED = [
     *STATED_JOBS,
     *STATED_FLOORS,
     *STATED_MARGINS,
+    *STATED_PARENTS,
     *STATED_EVENTS,
     *STATED_QUOTES,
 ]

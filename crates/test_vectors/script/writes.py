@@ -4,20 +4,9 @@ import random
 from rules import MOST_ARCS, MOST_CAP, MOST_COST, MOST_SHARE, dead_end_marks
 from entries import answer
 from job import FIRST, MOST_NOTE, TRAILER, first_job
-from job_cases import (
-    BEYOND_CAP,
-    BEYOND_SHARE,
-    GREATEST,
-    LARGE,
-    LEAST,
-    MOST_OUTPUT,
-    NOTES,
-    T_ARCS,
-    one,
-    with_entry,
-)
+from job_cases import BEYOND_CAP, BEYOND_SHARE, GREATEST, LARGE, LEAST, MOST_OUTPUT, NOTES, T_ARCS, one
 from marks import lists
-from networks import chain, comb, random_caps, random_proposal, random_tree, star
+from networks import chain, comb, random_caps, random_proposal, random_tree, star, with_entry
 from trees import FAULTY_ARCS, damaged
 from writer import job_bytes
 

@@ -1,6 +1,6 @@
-// One case: a command, a tree, and for some commands up to three fields more; or parents, costs and a length; or a
-// number of members and a list with an entry each; or a job, and for some commands a length; or the note and the lists
-// of a job and a length; or a state and steps.
+// One case: a command, a tree, and for some commands up to three fields more; or parents, costs and a length; or
+// parents alone; or a number of members and a list with an entry each; or a job, and for some commands a length; or the
+// note and the lists of a job and a length; or a state and steps.
 use crate::command;
 use crate::command::Command;
 use crate::convert_case;
@@ -8,6 +8,7 @@ use crate::event_case;
 use crate::job_case;
 use crate::job2_case;
 use crate::level_case;
+use crate::next_case;
 use crate::print;
 use crate::state_case;
 use crate::write_case;
@@ -264,6 +265,8 @@ fn answer(line: &[u8]) {
     match c {
         Command::Shares => shares(line),
         Command::Caps => caps(line),
+        Command::Next => next_case::run(c, line),
+        Command::Walk => next_case::run(c, line),
         Command::Job => job_case::run(line),
         Command::JobTwo => job2_case::run(line),
         Command::Write => write_case::run(line),

@@ -18,6 +18,8 @@ pub enum Command {
     DeadEnds,
     CapSums,
     Margin,
+    Next,
+    Walk,
     Job,
     JobTwo,
     Write,
@@ -33,8 +35,8 @@ pub fn named(name: &[u8]) -> Command
 {
     match field::find(
         b"check count members needs group total search shares level caps byarc deadends capsums margin \
-        job job2 write to2 to1 state events",
-        21,
+        next walk job job2 write to2 to1 state events",
+        23,
         name,
     ) {
         0 => Command::Check,
@@ -51,13 +53,15 @@ pub fn named(name: &[u8]) -> Command
         11 => Command::DeadEnds,
         12 => Command::CapSums,
         13 => Command::Margin,
-        14 => Command::Job,
-        15 => Command::JobTwo,
-        16 => Command::Write,
-        17 => Command::ToTwo,
-        18 => Command::ToOne,
-        19 => Command::State,
-        20 => Command::Events,
+        14 => Command::Next,
+        15 => Command::Walk,
+        16 => Command::Job,
+        17 => Command::JobTwo,
+        18 => Command::Write,
+        19 => Command::ToTwo,
+        20 => Command::ToOne,
+        21 => Command::State,
+        22 => Command::Events,
         _ => Command::Unknown,
     }
 }
@@ -81,6 +85,8 @@ pub fn fields(c: Command) -> usize
         Command::DeadEnds => 4,
         Command::CapSums => 6,
         Command::Margin => 6,
+        Command::Next => 2,
+        Command::Walk => 2,
         Command::Job => 3,
         Command::JobTwo => 3,
         Command::Write => 7,

@@ -10,6 +10,7 @@ mod job_case;
 mod job_lists;
 mod level_case;
 mod lines;
+mod next_case;
 mod print;
 mod state_case;
 mod step_text;

@@ -9,6 +9,7 @@ use engine::MemberCount;
 use engine::NeedsFound;
 use engine::Refusal;
 use engine::Searched;
+use engine::Stepped;
 use engine::TotalFound;
 use events::Change;
 use events::Event;
@@ -122,6 +123,14 @@ pub fn margin_split(s: MarginSplit) {
             labelled(b" users ", users as u64);
         }
         MarginSplit::Refused(r) => refusal(r),
+    }
+}
+
+pub fn stepped(s: Stepped) {
+    match s {
+        Stepped::Next => text(b"next"),
+        Stepped::End => text(b"end"),
+        Stepped::Refused(r) => refusal(r),
     }
 }
 

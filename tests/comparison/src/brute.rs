@@ -308,3 +308,38 @@ pub fn margin_split(tree: &Tree, branch: usize, margin: u64) -> Vec<u64> {
     let users = users(tree, branch);
     users.into_iter().map(|j| shares[j]).collect()
 }
+
+/// All parent lists of so many arcs in rising order: of all lists of so many
+/// numbers below the number of arcs, those whose entries are below their arcs.
+pub fn parent_lists(arcs: usize) -> Vec<Vec<u16>> {
+    let mut lists = vec![Vec::new()];
+    for _ in 0..arcs {
+        let with = |list: &Vec<u16>, entry: usize| [&list[..], &[entry as u16]].concat();
+        let longer = |list: Vec<u16>| (0..arcs).map(move |entry| with(&list, entry));
+        lists = lists.into_iter().flat_map(longer).collect();
+    }
+    lists.retain(|list| (1..).zip(list).all(|(arc, &parent)| parent < arc));
+    lists.sort();
+    lists
+}
+
+/// The parents of the shape that a word draws bit by bit, a 1 going down a new arc
+/// and a 0 going back up; none where it does not end at the source.
+fn drawn(word: usize, bits: usize) -> Option<Vec<u16>> {
+    let (mut path, mut parents) = (vec![0], Vec::new());
+    for bit in 0..bits {
+        if word >> bit & 1 == 1 {
+            parents.push(*path.last()?);
+            path.push(parents.len() as u16);
+        } else {
+            path.pop();
+        }
+    }
+    (path == [0]).then_some(parents)
+}
+
+/// The parents of all shapes of so many arcs.
+pub fn shapes(arcs: usize) -> impl Iterator<Item = Vec<u16>> {
+    let bits = 2 * arcs;
+    (0..1 << bits).filter_map(move |word| drawn(word, bits))
+}

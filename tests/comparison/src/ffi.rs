@@ -84,6 +84,15 @@ pub struct ZilqodurMargin {
     pub users: usize,
 }
 
+/// The verdict is 0 in a refusal, 1 where the next list is written, 2 at the end.
+#[repr(C)]
+#[derive(Clone, Copy, Debug, Default, PartialEq)]
+pub struct ZilqodurStep {
+    pub refusal: u32,
+    pub place: usize,
+    pub verdict: u32,
+}
+
 #[repr(C)]
 #[derive(Clone, Copy, Debug, PartialEq)]
 pub struct ZilqodurState {
@@ -289,6 +298,7 @@ unsafe extern "C" {
         out: *mut u64,
         out_count: usize,
     ) -> ZilqodurMargin;
+    fn zilqodur_next_parents(parents: *mut u16, parents_count: usize) -> ZilqodurStep;
     fn zilqodur_make_state(
         parents: *const u16,
         parents_count: usize,
@@ -604,6 +614,10 @@ pub fn split_margin(
             out.len(),
         )
     }
+}
+
+pub fn next_parents(parents: &mut [u16]) -> ZilqodurStep {
+    unsafe { zilqodur_next_parents(parents.as_mut_ptr(), parents.len()) }
 }
 
 pub fn make_state(parents: &[u16], costs: &[u32], marks: &[u16]) -> ZilqodurStateAnswer {

@@ -1,6 +1,6 @@
 //! Compares the archive with the reference on pseudo-random inputs from fixed
 //! seeds: comparison [PERCENT OF THE ROUNDS] [CANARIES ON EACH SIDE OF A LIST]
-//! A run of all rounds fails where a case of rare.rs, rare_level.rs or rare_job2.rs was never met.
+//! A run of all rounds fails where a case of rare.rs, rare_level.rs, rare_step.rs or rare_job2.rs was never met.
 
 mod brute;
 mod compare;
@@ -8,6 +8,7 @@ mod compare_job;
 mod compare_job2;
 mod compare_level;
 mod compare_state;
+mod compare_step;
 mod ffi;
 mod generate;
 mod generate_job;
@@ -22,12 +23,15 @@ mod margin;
 mod rare;
 mod rare_job2;
 mod rare_level;
+mod rare_step;
 mod reference;
 mod report;
 mod rng;
 mod state;
+mod step;
 mod table;
 mod table_job2;
+mod table_step;
 mod tally;
 
 use compare::Network;
@@ -68,6 +72,8 @@ fn main() {
     compare_longest(&mut tally);
     compare_job2::longest(&mut tally);
     compare_leftovers(&mut tally);
+    compare_step::all_lists(&mut tally);
+    compare_step::round(&mut tally, percent);
     compare_level::small_trees(&mut tally, percent);
     for phase in PHASES {
         for round in 0..(phase.rounds * percent).div_ceil(100) {

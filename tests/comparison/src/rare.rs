@@ -9,6 +9,7 @@ use crate::job::Fault;
 use crate::margin::{self, Branch};
 use crate::rare_job2;
 use crate::rare_level;
+use crate::rare_step;
 use crate::reference::{Refusal, Tree, ARCS, COST};
 use crate::state::EVENTS;
 use crate::tally::Tally;
@@ -18,7 +19,7 @@ pub const TREE: [u32; 7] = [1, 2, 3, 4, 16, 17, 18];
 /// The refusals of each entry, with whether it has those of a tree too; and those
 /// under which the level split is held against its definitions.
 #[rustfmt::skip]
-const REFUSALS: [(&str, bool, &[u32]); 28] = [
+const REFUSALS: [(&str, bool, &[u32]); 29] = [
     ("check_tree", true, &[]),
     ("check_caps", false, &[6, 7]),
     ("check_proposal", false, &[6, 7]),
@@ -33,6 +34,7 @@ const REFUSALS: [(&str, bool, &[u32]); 28] = [
     ("split_level", true, &[6, 7, 27, 8, 9, 28]),
     ("split_by_arc", true, &[8]),
     ("split_margin", true, &[25, 26, 8]),
+    ("next_parents", false, &[31, 3]),
     ("make_state", true, &[]),
     ("ask", false, &[1, 3, 4, 16, 17, 18, 21, 22]),
     ("commit", false, &[23, 24, 1, 3, 4, 16, 17, 18, 21, 22]),
@@ -407,6 +409,7 @@ pub fn unmet(tally: &Tally) -> Vec<String> {
     let rare = rare.chain(of_branch).chain(branches);
     let rare = rare.chain(states).chain(events).chain(quote_meetings());
     let rare = rare.chain(rare_level::wanted()).chain(rare_job2::wanted());
+    let rare = rare.chain(rare_step::wanted());
     unmet.extend(rare.filter(|case| !tally.met.contains(case)));
     unmet
 }

@@ -12,6 +12,7 @@ use crate::reference::{self, refuse, Answer, Refusal, AMOUNT};
 use crate::report;
 use crate::state::{self, Quote, State, EVENTS};
 use crate::table_job2;
+use crate::table_step;
 use crate::tally::Tally;
 use std::fmt::Debug;
 
@@ -229,6 +230,7 @@ pub fn compare(tally: &mut Tally) {
     proposal(tally, &w, &[7, 7, 6], (0, 2, &[0, 1]));
     floors(tally, &t);
     branches(tally, &t);
+    table_step::compare(tally);
     spare(tally);
     limits(tally, &t);
     marks(tally);

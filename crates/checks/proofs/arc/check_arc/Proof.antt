@@ -1,31 +1,42 @@
+use mathlib.Core.Path.{refl}
 use native.Mathlib.Omega.{arith}
 use borrow.Author.Needs.{needs}
-use borrow.Author.Tests.{le-leb, lt-leb, lt-ltb, le-ltb}
+use borrow.Author.Tests.{lt-ltb, le-ltb}
 use Rattle.limits.specs.Limits.{mostCost}
+use Rattle.answer_forms.proofs.Composed.{stopped}
+use Rattle.answer_forms.proofs.Opened.{opened}
 use Rattle.checks.proofs.arc.check_arc.Statement.{statement}
 use Rattle.checks.proofs.arc.check_arc.Tie as tie
 
 returns : tie.Need-returns
-returns c =
-    let at = c .before .before .args in
-    simp (le-leb (at .k) (at .parent) (omega (arith, c .before .if1 .taken))) (c .refuse .ensures)
+returns c = stopped _ (c .before .before .check-parent .ensures) (c .enum-told2 .given .1)
 
 returns-2 : tie.Need-returns-2
 returns-2 c =
-    let at = c .before .before .before .args in
-    simp (
-      lt-leb (at .k) (at .parent) (omega (arith, c .before .before .if1 .left)),
-      lt-ltb mostCost (at .cost) (omega (arith, c .before .if2 .taken)),
+    let parent = c .before .before in
+    rw (
+      opened (parent .before .before .check-parent .ensures) (parent .enum-told .given .1),
+      lt-ltb mostCost (parent .before .before .before .args .cost) (omega (arith, c .before .if1 .taken)),
     )
-    (c .refuse2 .ensures)
+    (c .refuse .ensures)
 
 returns-3 : tie.Need-returns-3
 returns-3 c =
-    let at = c .before .before .args in
-    simp (
-      lt-leb (at .k) (at .parent) (omega (arith, c .before .if1 .left)),
-      le-ltb mostCost (at .cost) (omega (arith, c .if2 .left)),
+    let parent = c .before in
+    rw (
+      opened (parent .before .before .check-parent .ensures) (parent .enum-told .given .1),
+      le-ltb mostCost (parent .before .before .before .args .cost) (omega (arith, c .if1 .left)),
     )
+    refl
 
 pub check-arc-spec : {M : Type 1} → statement M
-check-arc-spec = tie.close (tie.spec (λ c κs. search needs) returns (λ c κs. search needs) returns-2 returns-3)
+check-arc-spec =
+    tie.close
+    (tie.spec
+    (λ c κs. search needs)
+    (λ c. search needs)
+    (λ c. search needs)
+    returns
+    (λ c κs. search needs)
+    returns-2
+    returns-3)

@@ -1,29 +1,36 @@
 use Prim.Native.Nat.{ℕ}
-use mathlib.Core.Path.{sym, ap, _∙_}
+use mathlib.Core.Path.{_≡_, sym, ap, _∙_}
 use mathlib.Core.Bool.{not}
 use denote.Ref.{now}
 use Rattle.basics.specs.Sum.{some}
 use Rattle.game.specs.Tree.{marked}
 use Rattle.answer_forms.specs.Answer.{fault}
+use Rattle.answer_forms.specs.Checked.{checkOf}
 use borrow.Author.Needs.{needs}
 use borrow.Author.Tests.{eq-eqb, ne-eqb}
-use Rattle.answers.specs.Checks.{treeCheck}
+use Rattle.answers.specs.Checks.{countCheck, treeCheck}
+use Rattle.limits.specs.Limits.{mostArcs}
 use Rattle.answers.proofs.Accepted.{count-accepted}
 use Rattle.answer_forms.proofs.Composed.{stopped}
 use Rattle.answer_forms.proofs.Opened.{opened}
 use Rattle.checks.proofs.tree.check_tree.Statement.{statement}
 use Rattle.checks.proofs.tree.check_tree.Tie as tie
 
+-- the number of arcs
+few : (c : tie.After-check-count)
+    → checkOf (c .check-count .result) ≡ countCheck mostArcs 1 (now (c .before .before .before .before .args .parents))
+few c = c .check-count .ensures
+
 returns : tie.Need-returns
 unfolding treeCheck
-returns c = stopped _ (c .before .before .check-count .ensures) (c .enum-told2 .given .1)
+returns c = stopped _ (few (c .before .before)) (c .enum-told2 .given .1)
 
 returns-2 : tie.Need-returns-2
 unfolding treeCheck
 returns-2 c =
     let counted = c .before .before in
     rw (
-      opened (counted .before .before .check-count .ensures) (counted .enum-told .given .1),
+      opened (few (counted .before .before)) (counted .enum-told .given .1),
       ne-eqb _ _ (c .before .if1 .taken),
     )
     (c .refuse .ensures)
@@ -34,7 +41,7 @@ returns-3 c =
     let alike = c .before .before in
     let counted = alike .before in
     rw (
-      opened (counted .before .before .check-count .ensures) (counted .enum-told .given .1),
+      opened (few (counted .before .before)) (counted .enum-told .given .1),
       eq-eqb _ _ (alike .if1 .left),
       ne-eqb _ _ (c .before .if2 .taken),
     )
@@ -44,9 +51,9 @@ check-arcs-requires : tie.Need-check-arcs-requires
 check-arcs-requires c κs =
     let alike = c .before in
     let counted = alike .before in
-    let ok = opened (counted .before .before .check-count .ensures) (counted .enum-told .given .1) in
+    let ok = opened (few (counted .before .before)) (counted .enum-told .given .1) in
     let given = counted .before .before .before .before .before .before .args in
-    (count-accepted (now (given .parents)) ok .1, (alike .if1 .left, c .if2 .left))
+    (count-accepted mostArcs 1 (now (given .parents)) ok .1, (alike .if1 .left, c .if2 .left))
 
 returns-4 : tie.Need-returns-4
 unfolding treeCheck
@@ -55,7 +62,7 @@ returns-4 c =
     let alike = arcs .before .before in
     let counted = alike .before in
     rw (
-      opened (counted .before .before .check-count .ensures) (counted .enum-told .given .1),
+      opened (few (counted .before .before)) (counted .enum-told .given .1),
       eq-eqb _ _ (alike .if1 .left),
       eq-eqb _ _ (arcs .before .if2 .left),
     )
@@ -73,7 +80,7 @@ returns-5 c =
     let alike = arcs .before .before in
     let counted = alike .before in
     rw (
-      opened (counted .before .before .check-count .ensures) (counted .enum-told .given .1),
+      opened (few (counted .before .before)) (counted .enum-told .given .1),
       eq-eqb _ _ (alike .if1 .left),
       eq-eqb _ _ (arcs .before .if2 .left),
       opened (arcs .check-arcs .ensures) (opens .enum-told3 .given .1),
