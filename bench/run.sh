@@ -1,7 +1,7 @@
 #!/usr/bin/env bash
 # Times the archive against Rust and prints the tables: run.sh [write]. With `write` they also replace all of
 # docs/PERFORMANCE.md below its line '<!-- bench/run.sh .. -->'. Makes the archive where it is missing or older than the
-# code. Takes some 60 seconds.
+# code. Takes some 70 seconds.
 set -euo pipefail
 cd "$(dirname "$0")/.."
 PATH="$PATH:${HOME:-}/.cargo/bin"

@@ -20,8 +20,8 @@
  *
  * Answer. Each function answers a struct. `refusal` is 0 where there is none, else one of enum ZilqodurRefusal; `place` is the arc, vertex,
  * member or bit where the fault stands, 0 for a number without a place. A field for which the answer has no value is 0. So after a refusal
- * every field but `refusal` and `place` is 0, `group`, `quote` and `shares` throughout, except `shortfall` with refusal 9, and `state`
- * after a refused commit, which is as it came.
+ * every field but `refusal` and `place` is 0, `group`, `totals`, `quote` and `shares` throughout, except `shortfall` with refusal 9, and
+ * `state` after a refused commit, which is as it came.
  *
  * Lists. A list is a pointer and the number of its elements. A function writes only to its lists without `const`, and to none of them
  * when it refuses. Any numbers may stand in a list; what a function cannot use it refuses.
@@ -81,7 +81,8 @@ enum ZilqodurRefusal {
     ZILQODUR_FLOORS_ABOVE_NEED = 28, /* [arc] */
     ZILQODUR_UNMARKED_DEAD_END = 29, /* [lowest such vertex] */
     ZILQODUR_FLOOR_ABOVE_ZERO = 30, /* [lowest such member] */
-    ZILQODUR_SMALL_ARC_COUNT = 31
+    ZILQODUR_SMALL_ARC_COUNT = 31,
+    ZILQODUR_CLASS_COUNT = 32
 };
 
 /* What a refusal's number says, as a sentence for a person. The strings are constants; nobody frees them. */
@@ -89,9 +90,9 @@ static inline const char *zilqodur_refusal_text(uint32_t refusal) {
     switch (refusal) {
         case ZILQODUR_NO_REFUSAL: return "no refusal";
         case ZILQODUR_ARC_COUNT: return "the parent list has no entry, or more than 1,023";
-        case ZILQODUR_TREE_LENGTHS: return "the parent list differs in length from the cost list or the mark list";
+        case ZILQODUR_TREE_LENGTHS: return "the cost list or the mark list does not have the length that goes with the parent list";
         case ZILQODUR_PARENT: return "a parent is not below its arc's number";
-        case ZILQODUR_COST: return "a cost is above 1,000,000,000";
+        case ZILQODUR_COST: return "a cost, or what an arc's costs add up to over the classes, is above 1,000,000,000";
         case ZILQODUR_GROUP_BIT: return "the group has a bit at or beyond the number of members";
         case ZILQODUR_LIST_LENGTH: return "the caps, the floors or the proposal do not have one entry a member";
         case ZILQODUR_LIST_RANGE: return "a cap, a floor or a proposed share is outside its range";
@@ -119,6 +120,7 @@ static inline const char *zilqodur_refusal_text(uint32_t refusal) {
         case ZILQODUR_UNMARKED_DEAD_END: return "a dead end is not marked";
         case ZILQODUR_FLOOR_ABOVE_ZERO: return "a floor is above 0";
         case ZILQODUR_SMALL_ARC_COUNT: return "the list to step from has no entry, or more than 6";
+        case ZILQODUR_CLASS_COUNT: return "the number of classes is 0, or above 4";
         default: return "no refusal has this number";
     }
 }
@@ -129,6 +131,9 @@ static inline const char *zilqodur_refusal_text(uint32_t refusal) {
 
 /* The greatest number of arcs of the parent lists that zilqodur_next_parents steps through. */
 #define ZILQODUR_MOST_SMALL_ARCS 6
+
+/* The greatest number of cost classes of zilqodur_split_classes. */
+#define ZILQODUR_MOST_CLASSES 4
 
 /* The greatest number of events that are committed one after another on a state that was made: where so many are, or more,
  * zilqodur_commit refuses. */
@@ -215,6 +220,15 @@ typedef struct ZilqodurMargin {
     uint64_t margin; /* the greatest that all proper nonempty groups of the arc's users can have together */
     size_t users;    /* the number of the arc's users: entries written to `out` */
 } ZilqodurMargin;
+
+typedef struct ZilqodurClassSplit {
+    uint32_t refusal;
+    size_t place;
+    size_t members; /* the number of members */
+    /* what the shares of each class add up to, then what each class costs, arcs without users left out: entry c and entry
+     * ZILQODUR_MOST_CLASSES + c are those of class c, and are equal; 0 for a class that is not in use */
+    uint64_t totals[2 * ZILQODUR_MOST_CLASSES];
+} ZilqodurClassSplit;
 
 enum ZilqodurStepVerdict {
     ZILQODUR_NO_STEP = 0,   /* the step is refused */
@@ -370,6 +384,18 @@ ZilqodurMembers zilqodur_split_by_arc(const uint16_t *parents, size_t parents_co
  * that of a number outside 1 to m, and the place of 25 and 26 is the number handed over. */
 ZilqodurMargin zilqodur_split_margin(const uint16_t *parents, size_t parents_count, const uint32_t *costs, size_t costs_count,
                                      const uint16_t *marks, size_t marks_count, size_t arc, uint64_t *out, size_t out_count);
+
+/* Writes the by-arc split of each of so many cost classes, 1 to ZILQODUR_MOST_CLASSES of them, numbered from 0. An arc has a cost in every
+ * class; what its costs add up to over the classes is at most 1,000,000,000, also where nobody uses it. Each class is split by itself: its
+ * shares are those that zilqodur_split_by_arc writes for the tree with the costs of that class, and leftover units of another class do not
+ * count. `costs` has the costs of class after class: one entry an arc and class, entry c * m + k - 1 for class c and arc k. `out` has the
+ * shares of class after class: one entry a member and class, entry c * n + j for class c and member j of n. Each member's shares added over
+ * the classes pass zilqodur_check_total and zilqodur_find_group on the tree with each arc's costs added over the classes. With one class
+ * the refusal, `members` and `out` are those of zilqodur_split_by_arc. Any number may be handed over as `classes`. Refusals: 32, 1, 2 where
+ * `costs` does not have one entry an arc and class or `marks` one an arc, then 3, 4 on what the arc's costs add up to, 16 and 17 arc by
+ * arc, 18, 8. */
+ZilqodurClassSplit zilqodur_split_classes(const uint16_t *parents, size_t parents_count, const uint32_t *costs, size_t costs_count,
+                                          const uint16_t *marks, size_t marks_count, size_t classes, uint64_t *out, size_t out_count);
 
 /* Steps from a parent list of m arcs to the next one, m being 1 to ZILQODUR_MOST_SMALL_ARCS. A parent list has for each arc a number below
  * the arc's own, entry 0 for arc 1; there are m! of them. They stand in rising order, their entries being compared from arc 1 on: those of

@@ -4,14 +4,14 @@
 use crate::ffi::{ZilqodurEvent, ZilqodurQuote};
 use crate::measure::medians;
 use crate::networks::Network;
-use crate::{best, ffi, jobs, same};
+use crate::{best, classes, ffi, jobs, same};
 use std::hint::black_box;
 
 #[rustfmt::skip]
-pub const ENTRIES: [&str; 18] = [
+pub const ENTRIES: [&str; 20] = [
     "needs", "total", "group search", "by-arc", "level", "job reader", "dead ends", "cap sums",
     "job length", "job writer", "make state", "ask", "commit", "margin", "level, floors",
-    "job reader, version 2", "job to version 2", "job to version 1",
+    "job reader, version 2", "job to version 2", "job to version 1", "one class", "four classes",
 ];
 
 pub const LEVEL: usize = 4;
@@ -20,6 +20,8 @@ pub const FLOORS: usize = 14;
 pub const READER_2: usize = 15;
 pub const TO_2: usize = 16;
 pub const TO_1: usize = 17;
+pub const ONE_CLASS: usize = 18;
+pub const FOUR_CLASSES: usize = 19;
 
 /// Microseconds of a call.
 #[derive(Clone, Copy)]
@@ -73,6 +75,7 @@ pub fn compare(n: &Network) {
     );
     compare_levels(n);
     compare_margins(n);
+    classes::compare(n);
     jobs::compare(n);
     compare_states(n);
 }
@@ -279,10 +282,10 @@ fn margin(n: &Network) -> Calls<'_> {
 
 /// The calls of each entry, in the order of their names.
 #[rustfmt::skip]
-const CALLS: [fn(&Network) -> Calls<'_>; 18] = [
+const CALLS: [fn(&Network) -> Calls<'_>; 20] = [
     needs, total, search, by_arc, level, jobs::reader, dead_ends, cap_sums, jobs::length,
     jobs::writer, make_state, ask, commit, margin, level_floors, jobs::reader2, jobs::to_2,
-    jobs::to_1,
+    jobs::to_1, classes::one, classes::four,
 ];
 
 /// The times of one entry on each of the networks.

@@ -9,6 +9,7 @@
 //! lists.
 
 mod best;
+mod classes;
 mod entries;
 #[allow(dead_code)]
 #[path = "../../tests/comparison/src/ffi.rs"]

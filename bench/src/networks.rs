@@ -4,6 +4,7 @@ use crate::job::Job;
 use crate::job2::{self, Job2};
 use crate::reference::{dead_ends, Tree, AMOUNT, COST};
 use crate::rng::Rng;
+use crate::same::CLASSES;
 
 #[derive(Clone, Copy)]
 pub enum Shape {
@@ -92,6 +93,8 @@ impl Branched {
 pub struct Network {
     pub parents: Vec<u16>,
     pub costs: Vec<u32>,
+    /// The costs in four parts, class after class.
+    pub classed: Vec<u32>,
     pub marks: Vec<u16>,
     pub members: usize,
     /// The sum over all arcs of the number of their users.
@@ -138,6 +141,19 @@ fn floors(rng: &mut Rng, shares: &[u64], caps: &[u64]) -> Vec<u64> {
     shares.iter().zip(caps).map(floor).collect()
 }
 
+/// Each cost in parts, one a class, the last of which is what is left of it.
+fn classed(rng: &mut Rng, costs: &[u32]) -> Vec<u32> {
+    let (mut left, mut classed) = (costs.to_vec(), Vec::new());
+    for _ in 1..CLASSES {
+        for cost in &mut left {
+            let part = rng.up_to(u64::from(*cost)) as u32;
+            classed.push(part);
+            *cost -= part;
+        }
+    }
+    [classed, left].concat()
+}
+
 /// The by-arc split with amounts moved between members.
 fn proposal(rng: &mut Rng, shares: &[u64]) -> Vec<i64> {
     let mut list: Vec<i64> = shares.iter().map(|&share| share as i64).collect();
@@ -168,6 +184,7 @@ impl Network {
             users: tree.users.iter().map(Vec::len).sum(),
             no_floors: vec![0; shares.len()],
             floors: floors(rng, &shares, &caps),
+            classed: classed(rng, &costs),
             caps,
             proposal,
             branched: Branched::new(shape, &parents, &costs),

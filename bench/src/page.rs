@@ -1,6 +1,8 @@
 //! The tables, as Markdown.
 
-use crate::entries::{Times, ENTRIES, FLOORS, LEVEL, MARGIN, READER_2, TO_1, TO_2};
+use crate::entries::{
+    Times, ENTRIES, FLOORS, FOUR_CLASSES, LEVEL, MARGIN, ONE_CLASS, READER_2, TO_1, TO_2,
+};
 use crate::steps::Walk;
 
 /// What was measured on one network.
@@ -82,6 +84,12 @@ fn print_note(entry: usize) {
     if entry == TO_1 {
         println!("The job is the one that `job to version 2` writes.\n");
     }
+    if entry == ONE_CLASS {
+        println!("The lists are those of `by-arc`.\n");
+    }
+    if entry == FOUR_CLASSES {
+        println!("Each cost of `by-arc` is in four parts, one a class, at random.\n");
+    }
 }
 
 /// One entry on all networks.
@@ -132,9 +140,9 @@ pub fn print_growth(rows: &[Row], from: usize, to: usize) {
     print!("| Network | Arcs | needs | total | group search | dead ends | cap sums ");
     print!("| Job bytes | job reader | job length | job writer ");
     print!("| job reader, version 2 | job to version 2 | job to version 1 ");
-    print!("| Sum of users | by-arc | make state | ask | commit ");
+    print!("| Sum of users | by-arc | one class | four classes | make state | ask | commit ");
     println!("| level | level, best | level, floors | level, floors, best | margin |");
-    println!("|---{}|", "|--:".repeat(23));
+    println!("|---{}|", "|--:".repeat(25));
     let at = |arcs| rows.iter().filter(move |row| row.arcs == arcs);
     for (a, b) in at(from).zip(at(to)) {
         let engine = |entry: usize| b.times[entry].engine / a.times[entry].engine;
@@ -149,6 +157,7 @@ pub fn print_growth(rows: &[Row], from: usize, to: usize) {
         print!("| {:.1} ", engine(READER_2));
         print!("| {:.1} | {:.1} ", engine(TO_2), engine(TO_1));
         print!("| {:.1} | {:.1} ", factor(a.users, b.users), engine(3));
+        print!("| {:.1} | {:.1} ", engine(ONE_CLASS), engine(FOUR_CLASSES));
         print!("| {:.1} | {:.1} ", engine(10), engine(11));
         print!("| {:.1} ", engine(12));
         print!("| {:.1} | {:.1} ", engine(LEVEL), best(LEVEL));

@@ -11,6 +11,7 @@ sys.dont_write_bytecode = True
 sys.path.insert(0, str(Path(__file__).resolve().parent / "script"))
 
 from rules import Tree
+from classes import Classed
 from entries import answer, question
 from stated import STATED
 from stated_jobs import T_BYTES
@@ -73,8 +74,10 @@ from margins import (
     small_margins,
     spare_plots,
 )
+from classed import class_turns, large_classes, random_classes, small_classes, spare_classes
+from class_order import class_counts, class_lengths, class_refusals, class_sums, random_class_faults
 from next_parents import every_list, list_faults, list_lengths, random_parents, walks
-from pruned import check_pruned
+from pruned import check_classes, check_pruned
 from job_parts import JOB_PARTS
 from events import (
     far_vertices,
@@ -171,6 +174,16 @@ PARTS = [
     large_margins,
     margin_refusals,
     random_margins,
+    small_classes,
+    class_turns,
+    spare_classes,
+    large_classes,
+    random_classes,
+    class_sums,
+    class_counts,
+    class_lengths,
+    class_refusals,
+    random_class_faults,
     every_list,
     walks,
     list_lengths,
@@ -225,6 +238,8 @@ def main(folder):
     for case in cases:
         if isinstance(case[1], Tree):
             check_pruned(case)
+        if isinstance(case[1], Classed):
+            check_classes(case)
     # a line that several parts have stands once
     answers = {question(case): answer(case) for case in cases}
     answers.update(dict.fromkeys(UNREADABLE, "bad case"))

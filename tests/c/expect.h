@@ -38,6 +38,7 @@ int are(const uint64_t *list, uint64_t a, uint64_t b, uint64_t c);
 /* All tests of the file of that name. The path is the sample job's. */
 void try_lists(void);
 void try_levels(void);
+void try_classes(void);
 void try_steps(void);
 void try_states(void);
 void try_jobs(const char *path);

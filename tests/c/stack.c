@@ -13,6 +13,7 @@
 #include <unistd.h>
 
 #define ARCS ZILQODUR_MOST_ARCS
+#define CLASSES ZILQODUR_MOST_CLASSES
 #define NOTE 255
 
 /* What the header asks a caller to have free, and what it says of single functions and of every other. */
@@ -32,8 +33,8 @@
 
 static uint16_t parents[ARCS], marks[ARCS], vertices[ARCS], branch[ARCS], branch_marks[ARCS];
 static uint16_t small[ZILQODUR_MOST_SMALL_ARCS] = {0, 0, 2, 3, 4, 5};
-static uint32_t costs[ARCS];
-static uint64_t caps[ARCS], floors[ARCS], out[ARCS], group[16];
+static uint32_t costs[ARCS], class_costs[CLASSES * ARCS];
+static uint64_t caps[ARCS], floors[ARCS], out[CLASSES * ARCS], group[16];
 static int64_t proposal[ARCS];
 static ZilqodurState state;
 static const ZilqodurQuote cheaper = {{1, ZILQODUR_NEW_COST, 999999999}, 0};
@@ -95,6 +96,12 @@ static uint32_t split_by_arc(void) {
 
 static uint32_t split_margin(void) {
     return zilqodur_split_margin(branch, ARCS, costs, ARCS, branch_marks, ARCS, 1, out, branch_members).refusal;
+}
+
+static uint32_t split_classes(void) {
+    return zilqodur_split_classes(parents, ARCS, class_costs, CLASSES * ARCS, marks, ARCS, CLASSES, out,
+                                  CLASSES * members)
+        .refusal;
 }
 
 static uint32_t next_parents(void) {
@@ -168,6 +175,7 @@ static const struct {
     {"zilqodur_split_level", split_level, LEVEL},
     {"zilqodur_split_by_arc", split_by_arc, OTHER},
     {"zilqodur_split_margin", split_margin, MARGIN},
+    {"zilqodur_split_classes", split_classes, OTHER},
     {"zilqodur_next_parents", next_parents, OTHER},
     {"zilqodur_make_state", make_state, MAKE},
     {"zilqodur_ask", ask, ASK},
@@ -239,8 +247,8 @@ static void write_branch(void) {
     branch_members = zilqodur_mark_dead_ends(branch, ARCS, costs, ARCS, branch_marks, ARCS).members;
 }
 
-/* Caps and floors that can be kept, the group of all members, and a first member who pays a unit more than the whole
- * tree costs: the total is off and a group overpays. */
+/* Equal costs in all classes, caps and floors that can be kept, the group of all members, and a first member who pays
+ * a unit more than the whole tree costs: the total is off and a group overpays. */
 static void write_lists(void) {
     size_t i;
     for (i = 0; i < ARCS; i++) {
@@ -248,6 +256,7 @@ static void write_lists(void) {
         caps[i] = 2000000000000;
         floors[i] = 1000000000;
     }
+    for (i = 0; i < CLASSES * ARCS; i++) class_costs[i] = 1000000000 / CLASSES;
     members = zilqodur_mark_dead_ends(parents, ARCS, costs, ARCS, marks, ARCS).members;
     proposal[0] = INT64_C(1000000000) * ARCS + 1;
     memset(group, 0, sizeof group);

@@ -72,7 +72,7 @@ fn write_parts(parents: &[u16], costs: &[u32], parts: &mut [u64]) {
     }
 }
 
-fn split(parents: &[u16], costs: &[u32], vertices: &[u16], out: &mut [u64]) {
+pub fn split(parents: &[u16], costs: &[u32], vertices: &[u16], out: &mut [u64]) {
     let (mut parts, mut starts, mut keys) = ([0; ARCS], [0; ARCS], [0; ARCS]);
     let (m, n) = (parents.len(), vertices.len());
     let (parts, starts, keys) = (&mut parts[..m], &mut starts[..m], &mut keys[..n]);

@@ -5,6 +5,7 @@
 mod by_arc;
 mod cap_sums;
 mod check;
+mod classes;
 mod dead_ends;
 mod floors;
 mod job;
@@ -22,6 +23,7 @@ mod writer;
 pub use by_arc::split_by_arc;
 pub use cap_sums::list_cap_sums;
 pub use check::check_tree;
+pub use classes::{split_classes, CLASSES};
 pub use dead_ends::mark_dead_ends;
 pub use floors::check_limits;
 pub use job::read_job;
@@ -79,6 +81,11 @@ fn write_counted(parents: &[u16], costs: &[u32], marks: &[u16], out: &mut [u32])
         let parent = usize::from(parents[k - 1]);
         used[parent] = used[parent] || here;
     }
+}
+
+/// The sum of the counted costs.
+fn whole_cost(costs: &[u32]) -> u64 {
+    costs.iter().map(|&cost| u64::from(cost)).sum()
 }
 
 /// Adds to each arc's entry those of all arcs below it; answers the sum of all.

@@ -1,6 +1,6 @@
 //! The total: the sums of the shares' parts, and of the counted costs.
 
-use super::{check_tree, count_members, write_counted};
+use super::{check_tree, count_members, whole_cost, write_counted};
 use crate::ffi::ZilqodurTotal;
 use crate::reference::{check_proposal, Answer, ARCS};
 
@@ -21,7 +21,7 @@ fn difference(parents: &[u16], costs: &[u32], marks: &[u16], proposal: &[i64]) -
     let counted = &mut counted[..parents.len()];
     write_counted(parents, costs, marks, counted);
     let (proposed, negative) = parts_of(proposal);
-    let owed = negative + counted.iter().map(|&cost| u64::from(cost)).sum::<u64>();
+    let owed = negative + whole_cost(counted);
     Ok(proposed as i64 - owed as i64)
 }
 

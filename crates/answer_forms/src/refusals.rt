@@ -3,13 +3,13 @@
 // The parent list has no entry, or more than 1,023.
 pub const ARC_COUNT: u32 = 1;
 
-// The parent list differs in length from the cost list or the mark list.
+// The cost list or the mark list does not have the length that goes with the parent list.
 pub const TREE_LENGTHS: u32 = 2;
 
 // A parent is not below its arc's number.
 pub const PARENT: u32 = 3;
 
-// A cost is above 1,000,000,000.
+// A cost, or what an arc's costs add up to over the classes, is above 1,000,000,000.
 pub const COST: u32 = 4;
 
 // The group has a bit at or beyond the number of members.
@@ -92,3 +92,6 @@ pub const FLOOR_ABOVE_ZERO: u32 = 30;
 
 // The list to step from has no entry, or more than 6.
 pub const SMALL_ARC_COUNT: u32 = 31;
+
+// The number of classes is 0, or above 4.
+pub const CLASS_COUNT: u32 = 32;

@@ -32,15 +32,12 @@ unfolding oneByOne
 all-accepted check zero h = refl
 all-accepted check (suc m) h = rw (all-accepted check m (λ k i. h k (in-more i))) (h (suc m) (in-last m))
 
--- the number of arcs
-pub count-accepted : (most number : ℕ) (ps : List ℕ) → countCheck most number ps ≡ accepted
-    → (0 < length ps) × (length ps ≤ most)
-count-accepted most number ps e =
-    let none = no-fault (eqb (length ps) 0 || ltb most (length ps)) number 0 e in
-    let some = eqb-false (length ps) 0 (neither-first (eqb (length ps) 0) (ltb most (length ps)) none) in (
-      omega arith,
-      ltb-false most (length ps) (neither-second (eqb (length ps) 0) (ltb most (length ps)) none),
-    )
+-- a number from 1 to the most
+pub count-accepted : (most number n : ℕ) → countCheck most number n ≡ accepted → (0 < n) × (n ≤ most)
+count-accepted most number n e =
+    let none = no-fault (eqb n 0 || ltb most n) number 0 e in
+    let some = eqb-false n 0 (neither-first (eqb n 0) (ltb most n) none) in
+    (omega arith, ltb-false most n (neither-second (eqb n 0) (ltb most n) none))
 
 -- each parent is below its arc
 pub parents-accepted : (ps : List ℕ) → ((k : ℕ) → In (length ps) k → parentCheck ps k ≡ accepted)
@@ -126,7 +123,7 @@ module _ (t : Tree) (e : treeCheck t ≡ accepted) where
   count-check = first-accepted (arcCountCheck ps) (lengths then after-lengths) e
 
   counted : (0 < length ps) × (length ps ≤ mostArcs)
-  counted = count-accepted mostArcs 1 ps count-check
+  counted = count-accepted mostArcs 1 (length ps) count-check
 
   not-unlike : (unlike ps (t .costs) || unlike ps ms) ≡ false
   not-unlike =

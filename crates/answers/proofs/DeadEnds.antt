@@ -84,7 +84,7 @@ plain-check ps cs =
     ∙ then-same (fault (unlike ps cs) 2 0)
     (λ same.
     ap (λ (c : Check). c then nobody) (arcs-same ps cs)
-    ∙ then-all (count-accepted mostArcs 1 ps counted .0) (no-fault (unlike ps cs) 2 0 same)))
+    ∙ then-all (count-accepted mostArcs 1 (length ps) counted .0) (no-fault (unlike ps cs) 2 0 same)))
   where
     nobody : Check
     nobody = fault (not (some (length ps) (marked (deadEnds ps)))) 18 0
@@ -101,7 +101,7 @@ plain-check ps cs =
 pub plain-few : (ps cs : List ℕ) → plainCheck ps cs ≡ accepted → length ps ≤ mostArcs
 unfolding plainCheck
 plain-few ps cs ok =
-    count-accepted mostArcs 1 ps
+    count-accepted mostArcs 1 (length ps)
     (first-accepted (arcCountCheck ps)
     (fault (unlike ps cs) 2 0 then oneByOne (arcCheck ps cs) (length ps)) ok) .1
 

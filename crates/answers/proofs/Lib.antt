@@ -20,11 +20,17 @@ pub mod ParentListsLaws
 pub mod Table
 pub mod InRange
 mod InTurn
+mod CorePasses
 pub mod ByArcLaws
+pub mod ClassParts
+pub mod Classed
+pub mod ClassesLaws
+pub mod OneClass
 pub mod BranchLaws
 pub mod MarginLaws
 pub mod Together
 pub mod Unused
+pub mod StubClasses
 pub mod Reached
 pub mod Numbers
 pub mod MadeStates

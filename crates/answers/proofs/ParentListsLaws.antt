@@ -14,7 +14,7 @@ use Rattle.basics.proofs.Bools.{clash}
 use Rattle.limits.specs.Limits.{mostSmallArcs}
 use Rattle.game.specs.Shapley.{factorial}
 use Rattle.game.specs.Tree.{ofArc}
-use Rattle.answer_forms.specs.Answer.{Check, accepted, value, answer}
+use Rattle.answer_forms.specs.Answer.{Check, accepted, value}
 use Rattle.answer_forms.proofs.Composed.{first-accepted, second-accepted}
 use Rattle.answers.specs.Checks.{countCheck, parentCheck, oneByOne, smallCheck}
 use Rattle.answers.specs.ParentLists.{precedes, parentLists, next, end, stepAnswer, stepList}
@@ -29,11 +29,12 @@ use Rattle.answers.proofs.ParentSteps.{follows-at, follows-last, fits-b
 -- a list is accepted: its arcs are few, and each has its parent below it
 module _ (l : List ℕ) (ok : smallCheck l ≡ accepted) where
   abbrev few : Check
-  few = countCheck mostSmallArcs 31 l
+  few = countCheck mostSmallArcs 31 (length l)
 
   pub small-few : length l ≤ mostSmallArcs
   unfolding smallCheck
-  small-few = count-accepted mostSmallArcs 31 l (first-accepted few (oneByOne (parentCheck l) (length l)) ok) .1
+  small-few =
+      count-accepted mostSmallArcs 31 (length l) (first-accepted few (oneByOne (parentCheck l) (length l)) ok) .1
 
   pub small-rooted : (v : ℕ) → ofArc l (suc v) ≤ v
   unfolding smallCheck

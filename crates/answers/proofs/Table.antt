@@ -5,7 +5,7 @@ use mathlib.Core.Option.{Option·elim}
 use Rattle.game.specs.Network.{climb, used, groupCost, sumBelow, wholeCost, membersTo}
 use Rattle.game.specs.Tree.{hasChild, deadEnds, countedCosts}
 use Rattle.basics.specs.Bit.{bit}
-use Rattle.basics.specs.Sum.{size, entries}
+use Rattle.basics.specs.Sum.{size, entries, total}
 use Rattle.game.specs.Group.{wordsOf}
 use Rattle.game.specs.Proposal.{pays}
 use Rattle.game.specs.Search.{groups, best, named}
@@ -29,6 +29,7 @@ use Rattle.answers.specs.States.{padded, madeState, treeIn, stateCheck}
 use Rattle.answers.specs.Events.{outcomeCheck, eventCheck}
 use Rattle.answers.specs.Quotes.{askAnswer, askedShares, commitCheck, commitAnswer, committedState}
 use Rattle.answers.specs.ParentLists.{precedes, parentLists, firstAfter, following, stepAnswer, stepList}
+use Rattle.answers.specs.Classes.{summedCosts, classedCheck, joined, classesAnswer, classesList, classesTotals}
 use Rattle.answers.specs.Table.{Table}
 
 pub table : Table
@@ -39,6 +40,7 @@ unfolding climb used groupCost sumBelow wholeCost membersTo hasChild deadEnds co
     byArcList capSumsAnswer capSumsList padded madeState treeIn stateCheck outcomeCheck eventCheck askAnswer
     askedShares commitCheck commitAnswer committedState greatest branchMarks inwardWithin widest marginAnswer
     marginList smallCheck flatMap Option·elim precedes parentLists firstAfter following stepAnswer stepList
+    summedCosts classedCheck joined total classesAnswer classesList classesTotals
 table =
     record {
       T-members = refl;
@@ -182,4 +184,13 @@ table =
       step-own-parent = (refl, refl);
       step-two-faults = (refl, refl);
       step-greatest-entry = (refl, refl);
+      T-classes = (refl, (refl, refl));
+      U-classes = (refl, (refl, refl));
+      T-one-class = (refl, (refl, refl));
+      four-classes = (refl, (refl, refl));
+      one-unit-more = (refl, (refl, refl));
+      no-class = (refl, (refl, refl));
+      five-classes = (refl, (refl, refl));
+      T-short-classes = (refl, (refl, refl));
+      T-classes-short-out = (refl, (refl, refl));
     }

@@ -103,7 +103,7 @@ module _ (s t : Tree) (differ : DifferUnused s t) where
   moved =
       ap₂ (λ (ps ms : List ℕ). network (treeOf ps (s .costs) ms)) (differ .same-parents) (differ .same-marks)
 
-  same-network : network s ≡ network t
+  pub same-network : network s ≡ network t
   same-network =
       moved
       ∙ network-same (t .parents) (s .costs) (t .costs) (t .marks)

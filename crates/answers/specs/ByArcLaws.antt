@@ -37,21 +37,22 @@ pub record InTurn (n : Network) (k : ℕ) : Type 0 where
   pub tally : (j : ℕ) → j < memberCount n
       → getD (talliesAt n k) j 0 ≡ count (n .arcs) (λ e. ltb k e && getsMore n e j)
 
-pub record ByArcLaws (t : Tree) (out : List ℕ) : Type 0 where
-  pub one-a-member : length (byArcList t out) ≡ memberCount (network t)
+-- of a tree and the by-arc shares of its members
+pub record ByArcLaws (t : Tree) (shares : List ℕ) : Type 0 where
+  pub one-a-member : length shares ≡ memberCount (network t)
   -- a share is the sum of what the arcs give the member
   pub from-arcs : (j : ℕ) → j < memberCount (network t)
-      → getD (byArcList t out) j 0 ≡ sum (network t .arcs) (λ k. gift (network t) k j)
+      → getD shares j 0 ≡ sum (network t .arcs) (λ k. gift (network t) k j)
   -- each arc gives its cost to its users, each the equal part or one unit more
   pub even : (k : ℕ) → ArcOf t k → Even (network t) k (gift (network t) k)
   pub in-turn : (k : ℕ) → ArcOf t k → used (network t) everyone k ≡ true → InTurn (network t) k
   -- the shares add up to the whole cost, and no group pays more than its own network costs
-  pub in-core : Core (network t) (map pos (byArcList t out))
+  pub in-core : Core (network t) (map pos shares)
   -- so the split passes the audit
-  pub passes : Passes t (map pos (byArcList t out))
+  pub passes : Passes t (map pos shares)
   -- n! times a share is less than n! times its path's number of arcs away from n! times the Shapley value
   pub near : (j : ℕ) → j < memberCount (network t)
-      → Within (membersFactorial t * pathLength (network t) j) (membersFactorial t * getD (byArcList t out) j 0)
+      → Within (membersFactorial t * pathLength (network t) j) (membersFactorial t * getD shares j 0)
       (shapley (network t) j)
   -- Theorem 1 of the paper: the Shapley value divides each arc's cost equally among its users
   pub theorem-1 : (j : ℕ) → j < memberCount (network t)
@@ -63,4 +64,4 @@ pub record ByArcLaws (t : Tree) (out : List ℕ) : Type 0 where
       → userCount (network t) k * (membersFactorial t / userCount (network t) k) ≡ membersFactorial t
 
 abbrev pub ByArcStatement : Type 0
-ByArcStatement = (t : Tree) (out : List ℕ) → membersCheck t out ≡ accepted → ByArcLaws t out
+ByArcStatement = (t : Tree) (out : List ℕ) → membersCheck t out ≡ accepted → ByArcLaws t (byArcList t out)

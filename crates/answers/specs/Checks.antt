@@ -15,13 +15,13 @@ use Rattle.answer_forms.specs.Answer.{Check, accepted, fault, _then_}
 abbrev pub unlike : List ℕ → List ℕ → Bool
 unlike a b = not (eqb (length a) (length b))
 
--- there is no arc, or more than so many
-abbrev pub countCheck : ℕ → ℕ → List ℕ → Check
-countCheck most number parents = fault (eqb (length parents) 0 || ltb most (length parents)) number 0
+-- the refusal of this number where there is none, or more than so many
+abbrev pub countCheck : ℕ → ℕ → ℕ → Check
+countCheck most number count = fault (eqb count 0 || ltb most count) number 0
 
 -- 1: there is no arc, or more than 1,023
 abbrev pub arcCountCheck : List ℕ → Check
-arcCountCheck = countCheck mostArcs 1
+arcCountCheck parents = countCheck mostArcs 1 (length parents)
 
 -- at arc k: 3 where the parent is not below it
 abbrev pub parentCheck : List ℕ → ℕ → Check
@@ -58,7 +58,8 @@ plainCheck parents costs =
 
 -- a parent list by itself: 31 where it has no arc or more than 6, then 3 arc by arc
 unfoldable pub smallCheck : List ℕ → Check
-smallCheck parents = countCheck mostSmallArcs 31 parents then oneByOne (parentCheck parents) (length parents)
+smallCheck parents =
+    countCheck mostSmallArcs 31 (length parents) then oneByOne (parentCheck parents) (length parents)
 
 -- 5 at the lowest bit that is set from bit j on, with f bits left to look at
 unfoldable pub bitsCheck : List ℕ → ℕ → ℕ → Check

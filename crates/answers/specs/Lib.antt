@@ -12,6 +12,7 @@ pub mod Events
 pub mod Quotes
 pub mod DeadEnds
 pub mod ParentLists
+pub mod Classes
 pub mod Limits
 pub mod Laws
 pub mod AuditLaws
@@ -24,5 +25,6 @@ pub mod MarginLaws
 pub mod EventLaws
 pub mod QuoteLaws
 pub mod ParentListsLaws
+pub mod ClassesLaws
 pub mod Unused
 pub mod Table

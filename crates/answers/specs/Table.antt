@@ -2,7 +2,7 @@
 use Prim.Native.Nat.{ℕ, _-_}
 use mathlib.Core.Path.{_≡_}
 use mathlib.Core.List.{List, [], _∷_}
-use lib.ListN.{replicate}
+use lib.ListN.{length, replicate}
 use lib.IntN.{pos, negsuc}
 use Rattle.game.specs.Tree.{Tree, treeOf, deadEndTree}
 use Rattle.answer_forms.specs.Answer.{Answer, value, refusal as no}
@@ -18,6 +18,7 @@ use Rattle.answers.specs.Margin.{MarginValue, marginAnswer, marginList}
 use Rattle.answers.specs.States.{State, noState, madeState}
 use Rattle.answers.specs.Events.{arrive, leave, newCost, eventAt}
 use Rattle.answers.specs.ParentLists.{Step, next, end, parentLists, stepAnswer, stepList}
+use Rattle.answers.specs.Classes.{Classed, classedOf, classesAnswer, classesList, classesTotals}
 use Rattle.answers.specs.Quotes.{Quote, quoteAt, askAnswer, askedShares, commitAnswer, committedState}
 
 -- the tree T of the specification, §10
@@ -112,6 +113,24 @@ Stays l answered = (stepAnswer l ≡ answered) × (stepList l ≡ l)
 -- the parents of three arcs
 abbrev pub three : ℕ → ℕ → ℕ → List ℕ
 three a b c = a ∷ b ∷ c ∷ []
+
+-- a split in classes: the members, the shares and the totals
+abbrev pub SplitInto : Classed → ℕ → List ℕ → List ℕ → Type 0
+SplitInto w members shares totals =
+    (classesAnswer w (lent (length shares)) ≡ value members)
+    × ((classesList w (lent (length shares)) ≡ shares) × (classesTotals w (lent (length shares)) ≡ totals))
+
+-- one that is refused: the lent list stays, and the totals are 0
+abbrev pub NotSplit : Classed → List ℕ → (number place : ℕ) → Type 0
+NotSplit w out number place =
+    (classesAnswer w out ≡ no number place) × ((classesList w out ≡ out) × (classesTotals w out ≡ replicate 8 0))
+
+-- T in so many classes, and a tree of one arc
+abbrev pub T-in : ℕ → List ℕ → Classed
+T-in classes costs = classedOf (T .parents) costs (T .marks) classes
+
+abbrev pub one-arc-in : ℕ → List ℕ → Classed
+one-arc-in classes costs = classedOf (0 ∷ []) costs (1 ∷ []) classes
 
 pub record Table : Type 0 where
   pub T-members : memberCountAnswer T ≡ value 3
@@ -266,3 +285,16 @@ pub record Table : Type 0 where
   pub step-own-parent : Stays (1 ∷ []) (no 3 1)
   pub step-two-faults : Stays (0 ∷ 1 ∷ 3 ∷ 3 ∷ 5 ∷ []) (no 3 3)
   pub step-greatest-entry : Stays (0 ∷ 65535 ∷ []) (no 3 2)
+  -- cost classes
+  pub T-classes : SplitInto (T-in 2 (1 ∷ 1 ∷ 0 ∷ 4 ∷ 5 ∷ 0 ∷ 5 ∷ 0 ∷ [])) 3 (2 ∷ 0 ∷ 4 ∷ 3 ∷ 7 ∷ 0 ∷ [])
+      (6 ∷ 10 ∷ 0 ∷ 0 ∷ 6 ∷ 10 ∷ 0 ∷ 0 ∷ [])
+  -- the tallies of the second class start at 0
+  pub U-classes : SplitInto (classedOf (U .parents) (7 ∷ 0 ∷ 0 ∷ 7 ∷ 0 ∷ 0 ∷ []) (U .marks) 2) 2
+      (4 ∷ 3 ∷ 4 ∷ 3 ∷ []) (7 ∷ 7 ∷ 0 ∷ 0 ∷ 7 ∷ 7 ∷ 0 ∷ 0 ∷ [])
+  pub T-one-class : SplitInto (T-in 1 (T .costs)) 3 (4 ∷ 8 ∷ 4 ∷ []) (16 ∷ 0 ∷ 0 ∷ 0 ∷ 16 ∷ 0 ∷ 0 ∷ 0 ∷ [])
+  pub four-classes : SplitInto (one-arc-in 4 (replicate 4 250000000)) 1 (replicate 4 250000000) (replicate 8 250000000)
+  pub one-unit-more : NotSplit (one-arc-in 4 (250000001 ∷ replicate 3 250000000)) (lent 4) 4 1
+  pub no-class : NotSplit (classedOf [] [] [] 0) (lent 3) 32 0
+  pub five-classes : NotSplit (one-arc-in 5 (replicate 5 0)) (lent 5) 32 0
+  pub T-short-classes : NotSplit (T-in 2 (replicate 7 0)) (lent 6) 2 0
+  pub T-classes-short-out : NotSplit (T-in 2 (replicate 8 0)) (lent 3) 8 0

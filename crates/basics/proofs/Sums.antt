@@ -211,6 +211,15 @@ sum₀-zero n h = simp sum₀-is (sum-zero n (λ k i. h (pred k) (omega arith)))
 pub sum₀-swap : (n m : ℕ) (f : ℕ → ℕ → ℕ) → sum₀ n (λ i. sum m (λ k. f i k)) ≡ sum m (λ k. sum₀ n (λ i. f i k))
 sum₀-swap n m f = simp sum₀-is (sum-swap n m (λ i k. f (pred i) k))
 
+pub sum₀-swap₀ : (n m : ℕ) (f : ℕ → ℕ → ℕ) → sum₀ n (λ i. sum₀ m (λ k. f i k)) ≡ sum₀ m (λ k. sum₀ n (λ i. f i k))
+sum₀-swap₀ n m f =
+    sum₀-cong n (λ i h. sum₀-is m (f i))
+    ∙ sum₀-swap n m (λ i k. f i (pred k))
+    ∙ sym (sum₀-is m (λ k. sum₀ n (λ i. f i k)))
+
+pub sum₀-pick : (b : Bool) (n : ℕ) (f : ℕ → ℕ) → sum₀ n (λ i. pick b (f i)) ≡ pick b (sum₀ n f)
+sum₀-pick b n f = simp sum₀-is (sum-pick b n (λ k. f (pred k)))
+
 pub sum₀-at : (n j : ℕ) (f : ℕ → ℕ) → j < n → sum₀ n (λ i. pick (eqb j i) (f i)) ≡ f j
 sum₀-at n j f h =
     simp sum₀-is

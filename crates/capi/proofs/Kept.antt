@@ -1,5 +1,5 @@
 -- No check refuses with number 0, so what it finds can be read back from its struct.
-use Prim.Native.Nat.{ℕ, zero, suc, pred, _+_}
+use Prim.Native.Nat.{ℕ, zero, suc, pred, _+_, _*_}
 use mathlib.Core.Path.{_≡_, refl, subst}
 use mathlib.Core.Bool.{Bool, not, _||_}
 use mathlib.Core.List.{List, [], _∷_}
@@ -10,11 +10,12 @@ use Rattle.game.specs.ByArc.{userCount}
 use Rattle.basics.specs.Bit.{bit}
 use Rattle.answer_forms.specs.Answer.{Check, fault, _then_}
 use Rattle.answer_forms.proofs.Composed.{fault-holds, then-holds}
-use Rattle.limits.specs.Limits.{mostSmallArcs, mostEvents}
+use Rattle.limits.specs.Limits.{mostArcs, mostSmallArcs, mostClasses, mostEvents}
 use Rattle.answers.specs.Checks.{oneByOne, treeCheck, plainCheck, bitsCheck, rangeCheck}
 use Rattle.answers.specs.Checks.{parentCheck, smallCheck, memberListCheck, outputCheck}
 use Rattle.answers.specs.Level.{outsideCap, capsCheck, floorsCheck, limitsCheck}
 use Rattle.answers.specs.Margin.{leavesSource, marginCheck}
+use Rattle.answers.specs.Classes.{Classed, summedTree, classMembers, classedCheck, classesCheck}
 use Rattle.answers.specs.States.{State}
 use Rattle.answers.specs.Events.{Event, applyCheck}
 use Rattle.answers.specs.Quotes.{Quote, limitCheck, numberCheck, commitCheck}
@@ -98,3 +99,14 @@ small-kept parents =
     let few = eqb (length parents) 0 || ltb mostSmallArcs (length parents) in
     fault-then-kept few 30 0 (oneByOne (parentCheck parents) (length parents))
     (ones-kept (parentCheck parents) (λ k. fault-kept (leb k (ofArc parents k)) 2 k) (length parents))
+
+pub classes-kept : (w : Classed) (out : List ℕ) → Kept (classesCheck w out)
+unfolding classedCheck
+classes-kept w out =
+    let m = length (w .parents) in
+    then-kept (classedCheck w) (outputCheck (w .classes * classMembers w) out)
+    (fault-then-kept (eqb (w .classes) 0 || ltb mostClasses (w .classes)) 31 0 _
+    (fault-then-kept (eqb m 0 || ltb mostArcs m) 0 0 _
+    (fault-then-kept (not (eqb (length (w .costs)) (w .classes * m))) 1 0 (treeCheck (summedTree w))
+    (tree-kept (summedTree w)))))
+    (output-kept (w .classes * classMembers w) out)

@@ -22,6 +22,7 @@ use Rattle.answers.specs.CapSums.{capSumsAnswer}
 use Rattle.answers.specs.ByArc.{byArcAnswer}
 use Rattle.answers.specs.Margin.{marginAnswer}
 use Rattle.answers.specs.ParentLists.{Step, next, end, stepAnswer}
+use Rattle.answers.specs.Classes.{Classed, classesAnswer}
 use Rattle.answers.specs.States.{State as HeldState}
 use Rattle.answers.specs.Events.{Change, arrive, leave, newCost, Event, eventAt, applyCheck}
 use Rattle.answers.specs.Quotes.{Quote, quoteAt, QuoteValue, askAnswer, commitCheck, commitAnswer}
@@ -31,12 +32,12 @@ use Rattle.capi.specs.declared.states.ZilqodurStateAnswer.{ZilqodurState
 use Rattle.capi.specs.declared.quotes.ZilqodurQuoteAnswer.{ZilqodurQuoteAnswer}
 use Rattle.capi.specs.Structs.{encodeMembers, decodeMembers, encodeNeeds, decodeNeeds, encodeGroup, decodeGroup}
 use Rattle.capi.specs.Structs.{encodeTotal, decodeTotal, encodeSearch, decodeSearch, VerdictUnlessRefused}
-use Rattle.capi.specs.Structs.{encodeMargin, decodeMargin, encodeStep, decodeStep}
+use Rattle.capi.specs.Structs.{encodeMargin, decodeMargin, encodeClasses, decodeClasses, encodeStep, decodeStep}
 use Rattle.capi.specs.Structs.{encodeCapSums, decodeCapSums}
 use Rattle.capi.specs.Structs.{encodeState, decodeState, encodeEvent, eventBy, encodeQuote, quoteBy}
 use Rattle.capi.specs.Structs.{encodeAsked, decodeAsked}
 use Rattle.capi.proofs.Kept.{Kept, then-kept, tree-kept, plain-kept, bits-kept, list-kept, output-kept}
-use Rattle.capi.proofs.Kept.{margin-kept, small-kept, apply-kept, commit-kept}
+use Rattle.capi.proofs.Kept.{margin-kept, classes-kept, small-kept, apply-kept, commit-kept}
 
 -- s is the struct of an answer that can be read back: what it stands for, and that its other fields are 0
 pub stands-for : {A S : Type 0} (encode : A → S) (decode : S → A) {a found : A} {s : S} → s ≡ encode found → found ≡ a
@@ -193,6 +194,12 @@ pub margin-back : (t : Tree) (arc : ℕ) (out : List ℕ)
 unfolding marginAnswer
 margin-back t arc out =
     answer-back encodeMargin decodeMargin (λ x. refl) (λ n place. refl) _ _ (margin-kept t arc out)
+
+pub classes-back : (w : Classed) (out totals : List ℕ)
+    → decodeClasses (encodeClasses (classesAnswer w out) totals) ≡ classesAnswer w out
+unfolding classesAnswer
+classes-back w out totals =
+    answer-back (λ a. encodeClasses a totals) decodeClasses (λ x. refl) (λ n place. refl) _ _ (classes-kept w out)
 
 pub cap-sums-back : (t : Tree) (caps out : List ℕ)
     → decodeCapSums (encodeCapSums (capSumsAnswer t caps out)) ≡ capSumsAnswer t caps out

@@ -27,6 +27,7 @@ use Rattle.capi.specs.declared.total.ZilqodurTotal.{ZilqodurTotal}
 use Rattle.capi.specs.declared.cap_sums.ZilqodurCapSums.{ZilqodurCapSums}
 use Rattle.capi.specs.declared.level_split.ZilqodurLevel.{ZilqodurLevel}
 use Rattle.capi.specs.declared.margin_split.ZilqodurMargin.{ZilqodurMargin}
+use Rattle.capi.specs.declared.class_split.ZilqodurClassSplit.{ZilqodurClassSplit}
 use Rattle.capi.specs.declared.parent_step.ZilqodurStep.{ZilqodurStep}
 use Rattle.capi.specs.declared.states.ZilqodurEvent.{ZilqodurEvent}
 use Rattle.capi.specs.declared.states.ZilqodurStateAnswer.{ZilqodurStateAnswer}
@@ -140,6 +141,15 @@ encodeMargin (refusal number place) = record { refusal = number; place = place; 
 
 abbrev pub decodeMargin : ZilqodurMargin → Answer MarginValue
 decodeMargin s = valueOr (s .refusal) (s .place) (record { margin = s .margin; users = s .users })
+
+-- the totals stand beside the answer
+abbrev pub encodeClasses : Answer ℕ → List ℕ → ZilqodurClassSplit
+encodeClasses (value n) totals = record { refusal = 0; place = 0; members = n; totals = totals }
+encodeClasses (refusal number place) totals =
+    record { refusal = number; place = place; members = 0; totals = totals }
+
+abbrev pub decodeClasses : ZilqodurClassSplit → Answer ℕ
+decodeClasses s = valueOr (s .refusal) (s .place) (s .members)
 
 abbrev pub encodeLevel : LevelAnswer → ZilqodurLevel
 encodeLevel (split members) = record { refusal = 0; place = 0; shortfall = 0; members = members }

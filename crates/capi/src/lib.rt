@@ -3,6 +3,7 @@
 mod by_arc_split;
 mod cap_sums;
 mod check;
+mod class_split;
 mod group;
 mod group_search;
 mod job_read;
@@ -25,6 +26,8 @@ pub use check::ZilqodurCheck;
 pub use check::zilqodur_check_caps;
 pub use check::zilqodur_check_proposal;
 pub use check::zilqodur_check_tree;
+pub use class_split::ZilqodurClassSplit;
+pub use class_split::zilqodur_split_classes;
 pub use group::ZilqodurGroup;
 pub use group::zilqodur_group_cost;
 pub use group_search::ZilqodurSearch;

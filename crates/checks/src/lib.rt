@@ -11,6 +11,7 @@ mod proposal;
 mod small;
 mod tree;
 
+pub use arc::check_count;
 pub use branch::check_branch_arc;
 pub use branch::check_branch_users;
 pub use caps::check_caps;

@@ -21,7 +21,7 @@ use Rattle.answers.specs.Margin.{MarginValue, leavesSource, branchAt, marginAns
 use Rattle.answers.proofs.Accepted.{tree-accepted}
 use Rattle.tree.specs.Passes.{Marked}
 use Rattle.engine.specs.Inner.{marginAt}
-use Rattle.engine.proofs.TreeAccepted.{accepted-marked}
+use Rattle.tree.proofs.TreeAccepted.{accepted-marked}
 
 module _ (t : Tree) (ok : treeCheck t ≡ accepted) (arc : ℕ) where
   marks-length : length (branchMarks t arc) ≡ length (t .parents)

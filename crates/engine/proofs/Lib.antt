@@ -1,7 +1,5 @@
 pub mod OneToOne
-mod TreeAccepted
 mod BranchSplit
-mod MembersListed
 mod NamedSize
 mod ProposalAccepted
 mod Difference

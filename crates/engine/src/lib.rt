@@ -1,6 +1,7 @@
 // The public entries over lists as they are handed in. Each answers its value or a refusal by number and place.
 mod by_arc_split;
 mod cap_sums;
+mod class_split;
 mod group;
 mod group_search;
 mod level_split;
@@ -21,6 +22,8 @@ pub use checks::check_caps;
 pub use checks::check_limits;
 pub use checks::check_proposal;
 pub use checks::check_tree;
+pub use class_split::ClassSplit;
+pub use class_split::split_classes;
 pub use group::GroupCost;
 pub use group::group_cost;
 pub use group_search::GroupFound;

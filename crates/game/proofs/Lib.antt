@@ -35,6 +35,7 @@ pub mod Even
 pub mod Keys
 pub mod Gifts
 pub mod NaturalShares
+pub mod AddedCosts
 pub mod EvenCore
 pub mod ByArc
 pub mod LevelKeys

@@ -1,4 +1,4 @@
--- The limits (docs/SPECIFICATION.md, §1, §4, §5, §11, §13).
+-- The limits (docs/SPECIFICATION.md, §1, §4, §5, §11, §13, §14).
 use Prim.Native.Nat.{ℕ}
 
 -- the most arcs of a tree, and so the most members
@@ -8,6 +8,10 @@ mostArcs = 1023
 -- the most arcs for which all networks are stepped through
 abbrev pub mostSmallArcs : ℕ
 mostSmallArcs = 6
+
+-- the most classes of costs
+abbrev pub mostClasses : ℕ
+mostClasses = 4
 
 -- the bits of a group's sixteen words
 abbrev pub groupBits : ℕ

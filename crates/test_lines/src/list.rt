@@ -72,15 +72,23 @@ pub fn read16(s: &[u8], out: &mut [u16]) -> Entries
     found
 }
 
-// A list of 32-bit numbers, into the front of out.
+// A list of 32-bit numbers, into the front of out; wide has room for as many.
+pub fn read_many32(s: &[u8], wide: &mut [u64], out: &mut [u32]) -> Entries
+    requires { ⌜ length (now out) ≤ length (now wide) ⌝ }
+    ensures { λ r. ⌜ r .count ≤ length (now (out .entry)) ⌝ }
+{
+    let found = read_entries(s, false, u32::MAX as u64, out.len(), wide);
+    width::narrow32(wide, found.count, out);
+    found
+}
+
+// As read_many32, into a list of at most MOST.
 pub fn read32(s: &[u8], out: &mut [u32]) -> Entries
     requires { ⌜ length (now out) ≤ MOST ⌝ }
     ensures { λ r. ⌜ r .count ≤ length (now (out .entry)) ⌝ }
 {
     let mut wide = [0u64; MOST];
-    let found = read_entries(s, false, u32::MAX as u64, out.len(), &mut wide);
-    width::narrow32(&wide, found.count, out);
-    found
+    read_many32(s, &mut wide, out)
 }
 
 // A list of signed 64-bit numbers, into the front of out.

@@ -28,6 +28,7 @@ from rules import (
     words_of,
 )
 from by_arc import by_arc_split
+from classes import MOST_CLASSES, check_classed, class_split
 from job_entries import JOB_LINES
 from level import level_split
 from margin import margin_split
@@ -134,6 +135,14 @@ def answer_by_arc(tree, out):
     return f"members {count}"
 
 
+def answer_classes(classed, out, totals):
+    check_classed(classed)
+    count = member_count(classed)
+    check_output(out, classed.classes * count)
+    out[:], totals[:] = class_split(classed)
+    return f"members {count}"
+
+
 def answer_caps(count, caps):
     check_caps(count, caps)
     return "accepted"
@@ -163,11 +172,12 @@ ENTRIES = {
     "deadends": answer_dead_ends,
     "capsums": answer_cap_sums,
     "margin": answer_margin,
+    "classes": answer_classes,
     "next": answer_next,
 }
 
 # the commands whose last field is the length of an output list
-WRITING = {"members", "needs", "level", "byarc", "deadends", "capsums", "margin"}
+WRITING = {"members", "needs", "level", "byarc", "deadends", "capsums", "margin", "classes"}
 
 
 def answer_step(done):
@@ -222,6 +232,8 @@ def line_of(case):
     beside = []
     if command in WRITING:
         beside = [[UNTOUCHED] * fields.pop()]
+    if command == "classes":
+        beside.append([0] * 2 * MOST_CLASSES)
     if command == "search":
         beside = [[0] * WORDS]
     if command == "next":

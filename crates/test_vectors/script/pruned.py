@@ -1,7 +1,18 @@
 """Arcs without users change no answer: the same cases on the tree without them, where every dead end is marked."""
 import re
 
-from rules import Refusal, all_marked, arc_needs, arc_users, cap_sums, check_tree, member_vertices, whole_cost
+from rules import (
+    Refusal,
+    all_marked,
+    arc_needs,
+    arc_users,
+    cap_sums,
+    check_tree,
+    member_vertices,
+    refusal_of,
+    whole_cost,
+)
+from classes import Classed, check_classed, summed_tree
 from entries import answer
 
 # the commands whose answers hold no vertex, and no arc but that of refusals 9 and 28
@@ -60,3 +71,17 @@ def check_pruned(case):
     assert whole_cost(small) == sum(small.costs) == whole_cost(tree), case
     if command in COMPARED:
         assert as_before(answer((command, small, *rest)), kept) == answer(case), case
+
+
+def check_classes(case):
+    """Compares the split in cost classes, where the tree is accepted and has an arc without users."""
+    command, classed, length = case
+    if refusal_of(check_classed, classed):
+        return
+    small, kept = pruned(summed_tree(classed))
+    arcs = len(classed.parents)
+    if len(kept) == arcs:
+        return
+    costs = [classed.costs[c * arcs + arc - 1] for c in range(classed.classes) for arc in kept]
+    used = Classed(small.parents, costs, small.marks, classed.classes)
+    assert answer((command, used, length)) == answer(case), case

@@ -2,6 +2,7 @@
 from typing import NamedTuple
 
 from rules import Tree
+from classes import Classed
 from states import State
 
 # what an entry of an output is before a call
@@ -26,7 +27,7 @@ def shown(field):
         return field.hex() or "-"
     if isinstance(field, EachByte):
         return f"{field.data[: field.place].hex()}**{field.data[field.place + 1 :].hex()}"
-    if isinstance(field, Tree):
+    if isinstance(field, (Tree, Classed)):
         return " ".join(map(shown, field))
     if isinstance(field, State):
         return " ".join([str(field.arcs), *map(trimmed, field.lists), str(field.committed)])

@@ -4,6 +4,7 @@ from networks import T, T_SPARE, U, W, chain
 from trees import LARGE, proposed
 from floors import STATED_FLOORS
 from margins import STATED_MARGINS
+from classed import STATED_CLASSES
 from next_parents import STATED_PARENTS
 from stated_events import STATED_EVENTS
 from stated_jobs import STATED_JOBS
@@ -63,6 +64,7 @@ STATED = [
     *STATED_JOBS,
     *STATED_FLOORS,
     *STATED_MARGINS,
+    *STATED_CLASSES,
     *STATED_PARENTS,
     *STATED_EVENTS,
     *STATED_QUOTES,

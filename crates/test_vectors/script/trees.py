@@ -2,6 +2,7 @@
 import random
 
 from rules import MOST_COST, Refusal, Tree, all_marked, arc_users, check_tree, member_count, words_of
+from classes import Classed
 from networks import T, T_SPARE, U, W, all_groups, chain, random_group, random_proposal, random_tree, star
 
 
@@ -22,6 +23,17 @@ def margin_of(tree, arc):
     return "margin", tree, arc, length
 
 
+def divided(tree, classes):
+    """The tree with each cost divided into so many, which differ by one at most, the lower ones first."""
+    costs = [(cost + c) // classes for c in range(classes) for cost in tree.costs]
+    return Classed(tree.parents, costs, tree.marks, classes)
+
+
+def classes_of(classed):
+    """With an output list of the right length, for a number of classes that is not far above the most."""
+    return "classes", classed, classed.classes * member_count(classed)
+
+
 def every_entry(tree, words=words_of([0])):
     """A case of each command, with output lists, a proposal and caps of the right length."""
     count = member_count(tree)
@@ -40,6 +52,7 @@ def every_entry(tree, words=words_of([0])):
         ("deadends", tree.parents, tree.costs, arcs),
         ("capsums", tree, list(range(1, count + 1)), arcs),
         margin_of(tree, 1),
+        classes_of(divided(tree, 2)),
     ]
 
 

@@ -8,20 +8,21 @@ use Rattle.text.specs.Ascii.{ascii}
 use Rattle.test_vectors.specs.declared.command.Command.{Command}
 use Rattle.test_vectors.specs.declared.command.Command.the-variants.{Check, Count, Members, Needs, Group, Total}
 use Rattle.test_vectors.specs.declared.command.Command.the-variants.{Search, Shares, Level, Caps, ByArc, DeadEnds}
-use Rattle.test_vectors.specs.declared.command.Command.the-variants.{CapSums, Margin, Next, Walk, Job, JobTwo}
-use Rattle.test_vectors.specs.declared.command.Command.the-variants.{Write, ToTwo, ToOne, State, Events, Unknown}
+use Rattle.test_vectors.specs.declared.command.Command.the-variants.{CapSums, Margin, Classes, Next, Walk, Job}
+use Rattle.test_vectors.specs.declared.command.Command.the-variants.{JobTwo, Write, ToTwo, ToOne, State, Events}
+use Rattle.test_vectors.specs.declared.command.Command.the-variants.{Unknown}
 
 -- their names, with a space between two
 abbrev pub names : List ℕ
 names =
     ascii "check count members needs group total search shares level caps byarc deadends capsums margin "
-    ++ ascii "next walk job job2 write to2 to1 state events"
+    ++ ascii "classes next walk job job2 write to2 to1 state events"
 
 -- the commands, in the order of their names
 abbrev pub commands : List Command
 commands =
     Check ∷ Count ∷ Members ∷ Needs ∷ Group ∷ Total ∷ Search ∷ Shares ∷ Level ∷ Caps ∷ ByArc ∷ DeadEnds ∷ CapSums
-    ∷ Margin ∷ Next ∷ Walk ∷ Job ∷ JobTwo ∷ Write ∷ ToTwo ∷ ToOne ∷ State ∷ Events ∷ []
+    ∷ Margin ∷ Classes ∷ Next ∷ Walk ∷ Job ∷ JobTwo ∷ Write ∷ ToTwo ∷ ToOne ∷ State ∷ Events ∷ []
 
 -- how many fields a command's line has; none is right for an unknown command
 abbrev pub fieldCount : Command → ℕ
@@ -39,6 +40,7 @@ fieldCount ByArc = 5
 fieldCount DeadEnds = 4
 fieldCount CapSums = 6
 fieldCount Margin = 6
+fieldCount Classes = 6
 fieldCount Next = 2
 fieldCount Walk = 2
 fieldCount Job = 3

@@ -1,6 +1,7 @@
-// One case: a command, a tree, and for some commands up to three fields more; or parents, costs and a length; or
-// parents alone; or a number of members and a list with an entry each; or a job, and for some commands a length; or the
-// note and the lists of a job and a length; or a state and steps.
+// One case: a command, a tree, and for some commands up to three fields more; or a tree with costs in classes; or
+// parents, costs and a length; or parents alone; or a number of members and a list with an entry each; or a job, and
+// for some commands a length; or the note and the lists of a job and a length; or a state and steps.
+use crate::class_case;
 use crate::command;
 use crate::command::Command;
 use crate::convert_case;
@@ -265,6 +266,7 @@ fn answer(line: &[u8]) {
     match c {
         Command::Shares => shares(line),
         Command::Caps => caps(line),
+        Command::Classes => class_case::run(line),
         Command::Next => next_case::run(c, line),
         Command::Walk => next_case::run(c, line),
         Command::Job => job_case::run(line),

@@ -18,6 +18,7 @@ pub enum Command {
     DeadEnds,
     CapSums,
     Margin,
+    Classes,
     Next,
     Walk,
     Job,
@@ -35,8 +36,8 @@ pub fn named(name: &[u8]) -> Command
 {
     match field::find(
         b"check count members needs group total search shares level caps byarc deadends capsums margin \
-        next walk job job2 write to2 to1 state events",
-        23,
+        classes next walk job job2 write to2 to1 state events",
+        24,
         name,
     ) {
         0 => Command::Check,
@@ -53,15 +54,16 @@ pub fn named(name: &[u8]) -> Command
         11 => Command::DeadEnds,
         12 => Command::CapSums,
         13 => Command::Margin,
-        14 => Command::Next,
-        15 => Command::Walk,
-        16 => Command::Job,
-        17 => Command::JobTwo,
-        18 => Command::Write,
-        19 => Command::ToTwo,
-        20 => Command::ToOne,
-        21 => Command::State,
-        22 => Command::Events,
+        14 => Command::Classes,
+        15 => Command::Next,
+        16 => Command::Walk,
+        17 => Command::Job,
+        18 => Command::JobTwo,
+        19 => Command::Write,
+        20 => Command::ToTwo,
+        21 => Command::ToOne,
+        22 => Command::State,
+        23 => Command::Events,
         _ => Command::Unknown,
     }
 }
@@ -85,6 +87,7 @@ pub fn fields(c: Command) -> usize
         Command::DeadEnds => 4,
         Command::CapSums => 6,
         Command::Margin => 6,
+        Command::Classes => 6,
         Command::Next => 2,
         Command::Walk => 2,
         Command::Job => 3,

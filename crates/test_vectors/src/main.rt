@@ -1,5 +1,6 @@
 // Runs the engine's entries on the cases of standard input, one a line, and prints a line each.
 mod case;
+mod class_case;
 mod command;
 mod convert_case;
 mod each_byte;

@@ -8,4 +8,7 @@ pub mod UsePass
 mod GroupPass
 mod CountedPass
 pub mod Vertices
+pub mod MembersListed
+pub mod LocalCosts
+pub mod TreeAccepted
 mod UserCounts

@@ -152,7 +152,7 @@ pub fn level(tree: &Tree, caps: &[u64], floors: &[u64]) -> Answer<Vec<u64>> {
 
 /// Whether no group pays more than its cost. All members together cost the
 /// whole cost.
-fn in_core(costs: &[u64], shares: &[u64]) -> bool {
+pub fn in_core(costs: &[u64], shares: &[u64]) -> bool {
     let pays = |group: usize| {
         let inside = (0..shares.len()).filter(|j| group >> j & 1 == 1);
         inside.map(|j| shares[j]).sum::<u64>()

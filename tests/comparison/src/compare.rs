@@ -65,7 +65,7 @@ fn search(answer: Answer<Option<(u64, Vec<usize>)>>) -> ZilqodurSearch {
 }
 
 /// The list after a call: what is written, or on a refusal the list as lent.
-fn written<T: Clone>(before: &[T], answer: Answer<Vec<T>>) -> Vec<T> {
+pub fn written<T: Clone>(before: &[T], answer: Answer<Vec<T>>) -> Vec<T> {
     answer.unwrap_or_else(|_| before.to_vec())
 }
 
@@ -94,6 +94,7 @@ pub fn check_proposal(tally: &mut Tally, count: usize, proposal: &[i64]) {
 }
 
 /// A tree as handed in, checked or not.
+#[derive(Clone)]
 pub struct Network {
     pub parents: Vec<u16>,
     pub costs: Vec<u32>,

@@ -84,6 +84,16 @@ pub struct ZilqodurMargin {
     pub users: usize,
 }
 
+/// Entry c of the totals is what is paid in class c, entry 4 + c what it costs.
+#[repr(C)]
+#[derive(Clone, Copy, Debug, Default, PartialEq)]
+pub struct ZilqodurClassSplit {
+    pub refusal: u32,
+    pub place: usize,
+    pub members: usize,
+    pub totals: [u64; 8],
+}
+
 /// The verdict is 0 in a refusal, 1 where the next list is written, 2 at the end.
 #[repr(C)]
 #[derive(Clone, Copy, Debug, Default, PartialEq)]
@@ -298,6 +308,17 @@ unsafe extern "C" {
         out: *mut u64,
         out_count: usize,
     ) -> ZilqodurMargin;
+    fn zilqodur_split_classes(
+        parents: *const u16,
+        parents_count: usize,
+        costs: *const u32,
+        costs_count: usize,
+        marks: *const u16,
+        marks_count: usize,
+        classes: usize,
+        out: *mut u64,
+        out_count: usize,
+    ) -> ZilqodurClassSplit;
     fn zilqodur_next_parents(parents: *mut u16, parents_count: usize) -> ZilqodurStep;
     fn zilqodur_make_state(
         parents: *const u16,
@@ -610,6 +631,28 @@ pub fn split_margin(
             marks.as_ptr(),
             marks.len(),
             arc,
+            out.as_mut_ptr(),
+            out.len(),
+        )
+    }
+}
+
+pub fn split_classes(
+    parents: &[u16],
+    costs: &[u32],
+    marks: &[u16],
+    classes: usize,
+    out: &mut [u64],
+) -> ZilqodurClassSplit {
+    unsafe {
+        zilqodur_split_classes(
+            parents.as_ptr(),
+            parents.len(),
+            costs.as_ptr(),
+            costs.len(),
+            marks.as_ptr(),
+            marks.len(),
+            classes,
             out.as_mut_ptr(),
             out.len(),
         )

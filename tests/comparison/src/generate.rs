@@ -163,7 +163,7 @@ fn damage_lengths(rng: &mut Rng, n: &mut Network) {
 }
 
 /// Puts a fault with one of four refusal numbers at arc k, which all lists have.
-fn put_fault(rng: &mut Rng, n: &mut Network, k: usize) {
+pub fn put_fault(rng: &mut Rng, n: &mut Network, k: usize) {
     let arcs = n.parents.len();
     match rng.pick(&[3, 4, 16, 17]) {
         3 => n.parents[k - 1] = rng.pick(&[k, k, k + 1, 65_535, k + arcs]) as u16,

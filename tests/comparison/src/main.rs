@@ -1,9 +1,12 @@
 //! Compares the archive with the reference on pseudo-random inputs from fixed
 //! seeds: comparison [PERCENT OF THE ROUNDS] [CANARIES ON EACH SIDE OF A LIST]
-//! A run of all rounds fails where a case of rare.rs, rare_level.rs, rare_step.rs or rare_job2.rs was never met.
+//! A run of all rounds fails where a case of rare.rs, rare_level.rs, rare_classes.rs, rare_step.rs or rare_job2.rs was
+//! never met.
 
 mod brute;
+mod classes;
 mod compare;
+mod compare_classes;
 mod compare_job;
 mod compare_job2;
 mod compare_level;
@@ -11,6 +14,7 @@ mod compare_state;
 mod compare_step;
 mod ffi;
 mod generate;
+mod generate_classes;
 mod generate_job;
 mod generate_job2;
 mod generate_level;
@@ -21,6 +25,7 @@ mod lent;
 mod level;
 mod margin;
 mod rare;
+mod rare_classes;
 mod rare_job2;
 mod rare_level;
 mod rare_step;
@@ -30,6 +35,7 @@ mod rng;
 mod state;
 mod step;
 mod table;
+mod table_classes;
 mod table_job2;
 mod table_step;
 mod tally;
@@ -72,6 +78,7 @@ fn main() {
     compare_longest(&mut tally);
     compare_job2::longest(&mut tally);
     compare_leftovers(&mut tally);
+    compare_classes::largest(&mut tally);
     compare_step::all_lists(&mut tally);
     compare_step::round(&mut tally, percent);
     compare_level::small_trees(&mut tally, percent);
@@ -120,6 +127,7 @@ fn compare_round(tally: &mut Tally, rng: &mut Rng, arcs: usize) {
     let state_rng = &mut Rng::new(!tally.seed);
     compare_state::round(tally, state_rng, &network);
     compare_job2::round(tally, &mut Rng::new(tally.seed | 1 << 32), &network);
+    compare_classes::round(tally, &mut Rng::new(tally.seed | 1 << 33), &network);
     compare_tree(tally, rng, &network, &tree);
     compare_lists(tally, rng, &network, &tree, 3);
     compare_level::round(tally, rng, &network, &tree, 3);

@@ -7,6 +7,7 @@
 use crate::ffi::ZilqodurEvent;
 use crate::job::Fault;
 use crate::margin::{self, Branch};
+use crate::rare_classes;
 use crate::rare_job2;
 use crate::rare_level;
 use crate::rare_step;
@@ -17,9 +18,10 @@ use crate::tally::Tally;
 pub const TREE: [u32; 7] = [1, 2, 3, 4, 16, 17, 18];
 
 /// The refusals of each entry, with whether it has those of a tree too; and those
-/// under which the level split is held against its definitions.
+/// under which one class is held against the by-arc split, and the level split
+/// against its definitions.
 #[rustfmt::skip]
-const REFUSALS: [(&str, bool, &[u32]); 29] = [
+const REFUSALS: [(&str, bool, &[u32]); 31] = [
     ("check_tree", true, &[]),
     ("check_caps", false, &[6, 7]),
     ("check_proposal", false, &[6, 7]),
@@ -34,6 +36,8 @@ const REFUSALS: [(&str, bool, &[u32]); 29] = [
     ("split_level", true, &[6, 7, 27, 8, 9, 28]),
     ("split_by_arc", true, &[8]),
     ("split_margin", true, &[25, 26, 8]),
+    ("split_classes", true, &[32, 8]),
+    ("one class is the by-arc split", true, &[8]),
     ("next_parents", false, &[31, 3]),
     ("make_state", true, &[]),
     ("ask", false, &[1, 3, 4, 16, 17, 18, 21, 22]),
@@ -409,7 +413,9 @@ pub fn unmet(tally: &Tally) -> Vec<String> {
     let rare = rare.chain(of_branch).chain(branches);
     let rare = rare.chain(states).chain(events).chain(quote_meetings());
     let rare = rare.chain(rare_level::wanted()).chain(rare_job2::wanted());
-    let rare = rare.chain(rare_step::wanted());
+    let rare = rare
+        .chain(rare_classes::wanted())
+        .chain(rare_step::wanted());
     unmet.extend(rare.filter(|case| !tally.met.contains(case)));
     unmet
 }

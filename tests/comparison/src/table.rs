@@ -11,12 +11,13 @@ use crate::margin;
 use crate::reference::{self, refuse, Answer, Refusal, AMOUNT};
 use crate::report;
 use crate::state::{self, Quote, State, EVENTS};
+use crate::table_classes;
 use crate::table_job2;
 use crate::table_step;
 use crate::tally::Tally;
 use std::fmt::Debug;
 
-fn network(parents: &[u16], costs: &[u32], marks: &[u16]) -> Network {
+pub fn network(parents: &[u16], costs: &[u32], marks: &[u16]) -> Network {
     Network {
         parents: parents.to_vec(),
         costs: costs.to_vec(),
@@ -230,6 +231,7 @@ pub fn compare(tally: &mut Tally) {
     proposal(tally, &w, &[7, 7, 6], (0, 2, &[0, 1]));
     floors(tally, &t);
     branches(tally, &t);
+    table_classes::compare(tally);
     table_step::compare(tally);
     spare(tally);
     limits(tally, &t);

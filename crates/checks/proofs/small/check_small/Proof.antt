@@ -1,4 +1,5 @@
 use mathlib.Core.Path.{_≡_}
+use lib.ListN.{length}
 use denote.Ref.{now}
 use borrow.Author.Needs.{needs}
 use Rattle.limits.specs.Limits.{mostSmallArcs}
@@ -11,7 +12,7 @@ use Rattle.checks.proofs.small.check_small.Tie as tie
 
 -- the number of arcs
 few : (c : tie.After-check-count)
-    → checkOf (c .check-count .result) ≡ countCheck mostSmallArcs 31 (now (c .before .before .args .parents))
+    → checkOf (c .check-count .result) ≡ countCheck mostSmallArcs 31 (length (now (c .before .before .args .parents)))
 few c = c .check-count .ensures
 
 returns : tie.Need-returns

@@ -1,6 +1,7 @@
 use Prim.Native.Nat.{ℕ}
 use mathlib.Core.Path.{_≡_, sym, ap, _∙_}
 use mathlib.Core.Bool.{not}
+use lib.ListN.{length}
 use denote.Ref.{now}
 use Rattle.basics.specs.Sum.{some}
 use Rattle.game.specs.Tree.{marked}
@@ -8,7 +9,7 @@ use Rattle.answer_forms.specs.Answer.{fault}
 use Rattle.answer_forms.specs.Checked.{checkOf}
 use borrow.Author.Needs.{needs}
 use borrow.Author.Tests.{eq-eqb, ne-eqb}
-use Rattle.answers.specs.Checks.{countCheck, treeCheck}
+use Rattle.answers.specs.Checks.{arcCountCheck, treeCheck}
 use Rattle.limits.specs.Limits.{mostArcs}
 use Rattle.answers.proofs.Accepted.{count-accepted}
 use Rattle.answer_forms.proofs.Composed.{stopped}
@@ -18,7 +19,7 @@ use Rattle.checks.proofs.tree.check_tree.Tie as tie
 
 -- the number of arcs
 few : (c : tie.After-check-count)
-    → checkOf (c .check-count .result) ≡ countCheck mostArcs 1 (now (c .before .before .before .before .args .parents))
+    → checkOf (c .check-count .result) ≡ arcCountCheck (now (c .before .before .before .before .args .parents))
 few c = c .check-count .ensures
 
 returns : tie.Need-returns
@@ -53,7 +54,7 @@ check-arcs-requires c κs =
     let counted = alike .before in
     let ok = opened (few (counted .before .before)) (counted .enum-told .given .1) in
     let given = counted .before .before .before .before .before .before .args in
-    (count-accepted mostArcs 1 (now (given .parents)) ok .1, (alike .if1 .left, c .if2 .left))
+    (count-accepted mostArcs 1 (length (now (given .parents))) ok .1, (alike .if1 .left, c .if2 .left))
 
 returns-4 : tie.Need-returns-4
 unfolding treeCheck

@@ -1,8 +1,7 @@
 use mathlib.Core.Path.{sym, ap, _∙_}
 use denote.Ref.{now}
 use Rattle.game.specs.ByArc.{byArc}
-use Rattle.engine.proofs.TreeAccepted.{marks-count}
-use Rattle.engine.proofs.MembersListed.{written-listed, written-network, written-count}
+use Rattle.tree.proofs.MembersListed.{marks-count, written-listed, written-network, written-count}
 use borrow.Author.Needs.{needs}
 use Rattle.engine.proofs.by_arc_split.divide.Statement.{statement}
 use Rattle.engine.proofs.by_arc_split.divide.Tie as tie

@@ -6,8 +6,7 @@ use Rattle.game.specs.Network.{Network}
 use Rattle.answer_forms.specs.Answer.{value}
 use Rattle.answers.specs.Level.{capSum}
 use Rattle.level.proofs.CapsAccepted.{caps-accepted}
-use Rattle.engine.proofs.TreeAccepted.{marks-count}
-use Rattle.engine.proofs.MembersListed.{written-listed, written-network, written-count}
+use Rattle.tree.proofs.MembersListed.{marks-count, written-listed, written-network, written-count}
 use borrow.Author.Needs.{needs}
 use Rattle.engine.proofs.cap_sums.list_accepted.Statement.{statement}
 use Rattle.engine.proofs.cap_sums.list_accepted.Tie as tie

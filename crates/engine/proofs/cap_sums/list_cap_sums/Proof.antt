@@ -15,7 +15,7 @@ use Rattle.answers.proofs.Accepted.{tree-accepted}
 use Rattle.answers.proofs.CoreLaws.{members-end}
 use Rattle.answers.proofs.RunningSums.{running-list}
 use Rattle.answer_forms.proofs.Opened.{opened, turned-away}
-use Rattle.engine.proofs.TreeAccepted.{accepted-sound, accepted-marked}
+use Rattle.tree.proofs.TreeAccepted.{accepted-sound, accepted-marked}
 use Rattle.engine.proofs.cap_sums.list_cap_sums.Statement.{statement}
 use Rattle.engine.proofs.cap_sums.list_cap_sums.Tie as tie
 

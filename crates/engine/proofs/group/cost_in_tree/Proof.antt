@@ -10,7 +10,7 @@ use Rattle.answers.specs.Checks.{groupCheck}
 use Rattle.bits.proofs.Beyond.{size-within}
 use Rattle.answer_forms.specs.Checked.{checkOf}
 use Rattle.answer_forms.proofs.Opened.{opened, turned-away}
-use Rattle.engine.proofs.TreeAccepted.{marks-count, members-few}
+use Rattle.tree.proofs.MembersListed.{members-few, marks-count}
 use Rattle.engine.proofs.group.cost_in_tree.Statement.{statement}
 use Rattle.engine.proofs.group.cost_in_tree.Tie as tie
 

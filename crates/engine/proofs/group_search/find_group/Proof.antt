@@ -11,7 +11,8 @@ use Rattle.answer_forms.specs.Answer.{Answer, accepted, value}
 use Rattle.answers.specs.Checks.{treeCheck}
 use Rattle.answers.specs.Audit.{Verdict, auditCheck, searchVerdict, searchAnswer, searchWords, wordsBeside}
 use Rattle.answer_forms.proofs.Opened.{opened, turned-away}
-use Rattle.engine.proofs.TreeAccepted.{accepted-sound, counted-lent, counted-room, counted-part, accepted-lists}
+use Rattle.tree.proofs.LocalCosts.{counted-part, counted-room}
+use Rattle.tree.proofs.TreeAccepted.{accepted-sound, counted-lent, accepted-lists}
 use Rattle.engine.proofs.ProposalAccepted.{tree-taken, shares-taken}
 use Rattle.engine.proofs.group_search.find_group.Statement.{statement}
 use Rattle.engine.proofs.group_search.find_group.Tie as tie

@@ -11,7 +11,7 @@ use borrow.Author.Tests.{lt-ltb}
 use Rattle.basics.specs.Bit.{bit}
 use Rattle.basics.specs.Sum.{size}
 use Rattle.answer_forms.specs.Answer.{value}
-use Rattle.engine.proofs.TreeAccepted.{members-few}
+use Rattle.tree.proofs.MembersListed.{members-few}
 use Rattle.engine.proofs.NamedSize.{named-size}
 use Rattle.engine.proofs.group_search.search_in_tree.Statement.{statement}
 use Rattle.engine.proofs.group_search.search_in_tree.Tie as tie

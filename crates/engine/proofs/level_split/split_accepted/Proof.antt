@@ -10,8 +10,7 @@ use Rattle.answers.specs.Level.{LevelAnswer, capsCheck, splitFrom, listAfter, l
 use Rattle.tree.specs.Passes.{Capped, networkAt}
 use Rattle.level.specs.Stops.{answerOf}
 use Rattle.level.proofs.CapsAccepted.{caps-accepted}
-use Rattle.engine.proofs.TreeAccepted.{marks-count}
-use Rattle.engine.proofs.MembersListed.{written-listed, written-network, written-count}
+use Rattle.tree.proofs.MembersListed.{marks-count, written-listed, written-network, written-count}
 use borrow.Author.Needs.{needs}
 use Rattle.engine.proofs.level_split.split_accepted.Statement.{statement}
 use Rattle.engine.proofs.level_split.split_accepted.Tie as tie

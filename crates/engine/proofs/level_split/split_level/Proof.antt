@@ -5,7 +5,8 @@ use Rattle.game.specs.Tree.{treeOf, Tree}
 use Rattle.answer_forms.specs.Answer.{accepted}
 use Rattle.answers.specs.Checks.{treeCheck}
 use Rattle.answer_forms.proofs.Opened.{opened, turned-away}
-use Rattle.engine.proofs.TreeAccepted.{accepted-sound, counted-lent, counted-room, counted-part, accepted-lists}
+use Rattle.tree.proofs.LocalCosts.{counted-part, counted-room}
+use Rattle.tree.proofs.TreeAccepted.{accepted-sound, counted-lent, accepted-lists}
 use Rattle.engine.proofs.LevelAnswer.{tree-turned-down, tree-taken}
 use Rattle.engine.proofs.level_split.split_level.Statement.{statement}
 use Rattle.engine.proofs.level_split.split_level.Tie as tie

@@ -5,8 +5,7 @@ use borrow.Author.Needs.{needs}
 use Rattle.game.specs.Network.{Network}
 use Rattle.game.specs.Margin.{widest, sharesAt}
 use Rattle.game.proofs.Branched.{Branched}
-use Rattle.engine.proofs.TreeAccepted.{marks-count}
-use Rattle.engine.proofs.MembersListed.{written-listed, written-network, written-count}
+use Rattle.tree.proofs.MembersListed.{marks-count, written-listed, written-network, written-count}
 use Rattle.engine.proofs.margin_split.share_out.Statement.{statement}
 use Rattle.engine.proofs.margin_split.share_out.Tie as tie
 

@@ -7,7 +7,7 @@ use Rattle.limits.specs.Limits.{mostArcs}
 use Rattle.basics.proofs.Lists.{zeros-length}
 use Rattle.answer_forms.specs.Answer.{Answer, value}
 use Rattle.answers.specs.Margin.{MarginValue}
-use Rattle.engine.proofs.TreeAccepted.{members-few}
+use Rattle.tree.proofs.MembersListed.{members-few}
 use Rattle.engine.proofs.margin_split.split_accepted.Statement.{statement}
 use Rattle.engine.proofs.margin_split.split_accepted.Tie as tie
 

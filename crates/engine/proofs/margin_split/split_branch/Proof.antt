@@ -16,7 +16,8 @@ use Rattle.answer_forms.proofs.Composed.{no-fault}
 use Rattle.answer_forms.proofs.Opened.{opened, turned-away}
 use Rattle.answers.specs.Checks.{lengthCheck}
 use Rattle.answers.proofs.Accepted.{length-accepted}
-use Rattle.engine.proofs.TreeAccepted.{marks-count, counted-room, counted-part, sound-lent, sound-lists}
+use Rattle.tree.proofs.MembersListed.{marks-count}
+use Rattle.tree.proofs.LocalCosts.{counted-part, counted-room, sound-lent, sound-lists}
 use Rattle.engine.proofs.margin_split.split_branch.Statement.{statement}
 use Rattle.engine.proofs.margin_split.split_branch.Tie as tie
 

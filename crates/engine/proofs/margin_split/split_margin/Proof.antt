@@ -16,7 +16,7 @@ use Rattle.answers.proofs.BranchLaws.{leaves-accepted, branch-whole}
 use Rattle.basics.proofs.Lists.{zeros-length}
 use Rattle.limits.specs.Limits.{mostArcs}
 use Rattle.tree.specs.Passes.{Marked}
-use Rattle.engine.proofs.TreeAccepted.{accepted-sound, accepted-costed, accepted-marked}
+use Rattle.tree.proofs.TreeAccepted.{accepted-sound, accepted-costed, accepted-marked}
 use Rattle.engine.proofs.BranchSplit.{branch-marked, marks-room, marks-part, branch-answer, branch-list}
 use Rattle.engine.proofs.margin_split.split_margin.Statement.{statement}
 use Rattle.engine.proofs.margin_split.split_margin.Tie as tie

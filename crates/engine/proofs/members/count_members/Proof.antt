@@ -6,7 +6,7 @@ use Rattle.answer_forms.specs.Answer.{accepted}
 use Rattle.answers.specs.Checks.{treeCheck}
 use Rattle.answers.specs.Members.{memberCountAnswer}
 use Rattle.answer_forms.proofs.Opened.{opened, turned-away}
-use Rattle.engine.proofs.TreeAccepted.{accepted-count}
+use Rattle.tree.proofs.TreeAccepted.{accepted-count}
 use Rattle.engine.proofs.members.count_members.Statement.{statement}
 use Rattle.engine.proofs.members.count_members.Tie as tie
 

@@ -13,7 +13,7 @@ use Rattle.answers.specs.Members.{membersAnswer, membersList}
 use Rattle.answers.proofs.Accepted.{length-accepted}
 use Rattle.answer_forms.specs.Checked.{checkOf}
 use Rattle.answer_forms.proofs.Opened.{opened, turned-away}
-use Rattle.engine.proofs.TreeAccepted.{accepted-sound, accepted-marked, accepted-count}
+use Rattle.tree.proofs.TreeAccepted.{accepted-sound, accepted-marked, accepted-count}
 use Rattle.engine.proofs.members.list_members.Statement.{statement}
 use Rattle.engine.proofs.members.list_members.Tie as tie
 

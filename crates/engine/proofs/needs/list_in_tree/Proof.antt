@@ -7,7 +7,7 @@ use Rattle.answer_forms.specs.Answer.{accepted}
 use Rattle.answers.specs.Checks.{lengthCheck}
 use Rattle.answers.proofs.Accepted.{length-accepted}
 use Rattle.answer_forms.proofs.Opened.{opened, turned-away}
-use Rattle.engine.proofs.TreeAccepted.{marks-count}
+use Rattle.tree.proofs.MembersListed.{marks-count}
 use Rattle.engine.proofs.needs.list_in_tree.Statement.{statement}
 use Rattle.engine.proofs.needs.list_in_tree.Tie as tie
 

@@ -6,7 +6,7 @@ use Rattle.game.specs.Tree.{treeOf}
 use Rattle.answers.specs.Checks.{proposalCheck}
 use Rattle.answer_forms.proofs.Composed.{stopped, went-on}
 use Rattle.answer_forms.proofs.Opened.{opened}
-use Rattle.engine.proofs.TreeAccepted.{accepted-count}
+use Rattle.tree.proofs.TreeAccepted.{accepted-count}
 use Rattle.engine.proofs.proposed.check_proposed.Statement.{statement}
 use Rattle.engine.proofs.proposed.check_proposed.Tie as tie
 

@@ -1,4 +1,4 @@
-use Prim.Native.Nat.{ℕ, _+_, _-_, _≤_}
+use Prim.Native.Nat.{ℕ, _+_, _≤_}
 use mathlib.Core.Path.{_≡_, ap, _∙_}
 use mathlib.Core.List.{List}
 use lib.IntN.{ℤ, subℕ}
@@ -15,8 +15,9 @@ use Rattle.answers.specs.Audit.{auditCheck, totalAnswer}
 use Rattle.answer_forms.proofs.Opened.{opened, turned-away}
 use Rattle.answers.proofs.Accepted.{tree-accepted}
 use Rattle.answers.proofs.Limits.{whole-bound}
-use Rattle.engine.proofs.TreeAccepted.{accepted-sound, counted-lent, counted-room, counted-few}
-use Rattle.engine.proofs.TreeAccepted.{counted-whole}
+use Rattle.tree.proofs.LocalCosts.{counted-room}
+use Rattle.tree.proofs.TreeAccepted.{accepted-sound, counted-lent, counted-few}
+use Rattle.tree.proofs.LocalCosts.{counted-whole}
 use Rattle.engine.proofs.ProposalAccepted.{tree-taken, one-a-member, shares-lent}
 use Rattle.engine.proofs.Difference.{difference-is}
 use Rattle.engine.proofs.total.check_total.Statement.{statement}

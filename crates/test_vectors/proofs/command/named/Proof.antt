@@ -10,7 +10,7 @@ use Rattle.test_vectors.specs.Commands.{commands, names, Named}
 use Rattle.test_vectors.proofs.command.named.Statement.{statement}
 use Rattle.test_vectors.proofs.command.named.Tie as tie
 
-at-place : {name : List ℕ} {r p : ℕ} → First (fieldsOf names) 23 name r → r ≡ p → Named name (getD commands p Unknown)
+at-place : {name : List ℕ} {r p : ℕ} → First (fieldsOf names) 24 name r → r ≡ p → Named name (getD commands p Unknown)
 at-place {r = r} first e = record { place = r; first = first; is = ap (λ (i : ℕ). getD commands i Unknown) (sym e) }
 
 returns : tie.Need-returns
@@ -82,12 +82,15 @@ returns-22 c = at-place (c .before .find .ensures) (c .match .keys22)
 returns-23 : tie.Need-returns-23
 returns-23 c = at-place (c .before .find .ensures) (c .match .keys23)
 
--- none of the names before, so the last place and past it
 returns-24 : tie.Need-returns-24
-returns-24 c =
+returns-24 c = at-place (c .before .find .ensures) (c .match .keys24)
+
+-- none of the names before, so the last place and past it
+returns-25 : tie.Need-returns-25
+returns-25 c =
     let found = c .before .find .ensures in
     let none = c .match .rest in
-    let early = none .0 .0 .0 .0 .0 .0 .0 .0 .0 .0 .0 .0 in
+    let early = none .0 .0 .0 .0 .0 .0 .0 .0 .0 .0 .0 .0 .0 in
     let p0 : 0 < c .before .find .result = omega (arith, early .0 .0 .0 .0 .0 .0 .0 .0 .0 .0 .1) in
     let p1 : 1 < c .before .find .result = omega (arith, early .0 .0 .0 .0 .0 .0 .0 .0 .0 .1, p0) in
     let p2 : 2 < c .before .find .result = omega (arith, early .0 .0 .0 .0 .0 .0 .0 .0 .1, p1) in
@@ -99,19 +102,20 @@ returns-24 c =
     let p8 : 8 < c .before .find .result = omega (arith, early .0 .0 .1, p7) in
     let p9 : 9 < c .before .find .result = omega (arith, early .0 .1, p8) in
     let p10 : 10 < c .before .find .result = omega (arith, early .1, p9) in
-    let p11 : 11 < c .before .find .result = omega (arith, none .0 .0 .0 .0 .0 .0 .0 .0 .0 .0 .0 .1, p10) in
-    let p12 : 12 < c .before .find .result = omega (arith, none .0 .0 .0 .0 .0 .0 .0 .0 .0 .0 .1, p11) in
-    let p13 : 13 < c .before .find .result = omega (arith, none .0 .0 .0 .0 .0 .0 .0 .0 .0 .1, p12) in
-    let p14 : 14 < c .before .find .result = omega (arith, none .0 .0 .0 .0 .0 .0 .0 .0 .1, p13) in
-    let p15 : 15 < c .before .find .result = omega (arith, none .0 .0 .0 .0 .0 .0 .0 .1, p14) in
-    let p16 : 16 < c .before .find .result = omega (arith, none .0 .0 .0 .0 .0 .0 .1, p15) in
-    let p17 : 17 < c .before .find .result = omega (arith, none .0 .0 .0 .0 .0 .1, p16) in
-    let p18 : 18 < c .before .find .result = omega (arith, none .0 .0 .0 .0 .1, p17) in
-    let p19 : 19 < c .before .find .result = omega (arith, none .0 .0 .0 .1, p18) in
-    let p20 : 20 < c .before .find .result = omega (arith, none .0 .0 .1, p19) in
-    let p21 : 21 < c .before .find .result = omega (arith, none .0 .1, p20) in
-    let p22 : 22 < c .before .find .result = omega (arith, none .1, p21) in
-    at-place {p = 23} found (omega (arith, found .within, p22))
+    let p11 : 11 < c .before .find .result = omega (arith, none .0 .0 .0 .0 .0 .0 .0 .0 .0 .0 .0 .0 .1, p10) in
+    let p12 : 12 < c .before .find .result = omega (arith, none .0 .0 .0 .0 .0 .0 .0 .0 .0 .0 .0 .1, p11) in
+    let p13 : 13 < c .before .find .result = omega (arith, none .0 .0 .0 .0 .0 .0 .0 .0 .0 .0 .1, p12) in
+    let p14 : 14 < c .before .find .result = omega (arith, none .0 .0 .0 .0 .0 .0 .0 .0 .0 .1, p13) in
+    let p15 : 15 < c .before .find .result = omega (arith, none .0 .0 .0 .0 .0 .0 .0 .0 .1, p14) in
+    let p16 : 16 < c .before .find .result = omega (arith, none .0 .0 .0 .0 .0 .0 .0 .1, p15) in
+    let p17 : 17 < c .before .find .result = omega (arith, none .0 .0 .0 .0 .0 .0 .1, p16) in
+    let p18 : 18 < c .before .find .result = omega (arith, none .0 .0 .0 .0 .0 .1, p17) in
+    let p19 : 19 < c .before .find .result = omega (arith, none .0 .0 .0 .0 .1, p18) in
+    let p20 : 20 < c .before .find .result = omega (arith, none .0 .0 .0 .1, p19) in
+    let p21 : 21 < c .before .find .result = omega (arith, none .0 .0 .1, p20) in
+    let p22 : 22 < c .before .find .result = omega (arith, none .0 .1, p21) in
+    let p23 : 23 < c .before .find .result = omega (arith, none .1, p22) in
+    at-place {p = 24} found (omega (arith, found .within, p23))
 
 pub named-spec : {M : Type 1} → statement M
 named-spec =
@@ -142,4 +146,5 @@ named-spec =
     returns-21
     returns-22
     returns-23
-    returns-24)
+    returns-24
+    returns-25)

@@ -1,0 +1,4 @@
+mod Cut
+mod Totals
+mod TakenPart
+mod Fits
