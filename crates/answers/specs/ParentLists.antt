@@ -1,7 +1,7 @@
 -- All parent lists of a few arcs in rising order, and the step from one to the next.
 use Rattle.std.specs.Prelude.{ℕ, zero, suc, Bool, false, cond, ◌||◌, ◌&&◌, length, eqb, ltb}
 use mathlib.Core.List.{List, [], ◌∷◌, ◌++◌, flat_map}
-use Rattle.std.proofs.Math.Option.{Option, none, some, Option·elim, get_or}
+use Rattle.std.proofs.Math.Option.{Option, none, some, Option-elim, get_or}
 use Rattle.basics.specs.Sum.{entries}
 use Rattle.answer_forms.specs.Answer.{Answer, answer, written}
 use Rattle.answers.specs.Checks.{small_check}
@@ -36,7 +36,7 @@ pub data Step : Type 0 where
   end : Step
 
 unfoldable pub step_answer : List ℕ → Answer Step
-step_answer l = answer (small_check l) (Option·elim (following l) end (λ _. next))
+step_answer l = answer (small_check l) (Option-elim (following l) end (λ _. next))
 
 -- the lent list afterwards: the next one, and at the last one as it came
 unfoldable pub step_list : List ℕ → List ℕ

@@ -160,11 +160,11 @@ module _ (n : Network) (shares : List ℤ) where
   best_start g [] = as_good_self (is_in g)
   best_start g (x ∷ l) = as_good_trans (best_start (cond (better n shares x g) x g) l) (one_of_two x g).1
 
-  best_among : (g : List Bool) {h : List Bool} {l : List (List Bool)} → Among h l
+  best_among : {h : List Bool} (g : List Bool) {l : List (List Bool)} → Among h l
       → AsGood (is_in (best n shares g l)) (is_in h)
   unfolding best
-  best_among g {h} (here {l}) = as_good_trans (best_start (cond (better n shares h g) h g) l) (one_of_two h g).0
-  best_among g (there {y} a) = best_among (cond (better n shares y g) y g) a
+  best_among {h} g (here {l}) = as_good_trans (best_start (cond (better n shares h g) h g) l) (one_of_two h g).0
+  best_among {h} g (there {y} a) = best_among (cond (better n shares y g) y g) a
 
   as_good_same : {g a b : ℕ → Bool} → ((j : ℕ) → j < member_count n → a j ≡ b j) → AsGood g a → AsGood g b
   as_good_same {g} {a} {b} same good =

@@ -1,6 +1,6 @@
 // The step from a parent list to the next one of as many arcs, in the list itself.
 ghost use Rattle.std.specs.Prelude.{◌≡◌, true, false, ℕ, suc, ◌<◌, ◌≤◌, length, leb};
-ghost use Rattle.std.proofs.Math.Option.{Option·elim, get_or};
+ghost use Rattle.std.proofs.Math.Option.{Option-elim, get_or};
 ghost use Rattle.basics.specs.Sum.{pick, list};
 ghost use Rattle.game.specs.Tree.{of_arc};
 ghost use Rattle.answers.specs.ParentLists.{following};
@@ -39,7 +39,7 @@ fn clear_behind(parents: &mut [u16], arc: usize)
 // Writes the list that follows, and says whether there is one; where there is none the list stays.
 pub fn step(parents: &mut [u16]) -> bool
     requires { Sound parents.old }
-    ensures value { result ≡ Option·elim (following parents.old) false (λ _. true) }
+    ensures value { result ≡ Option-elim (following parents.old) false (λ _. true) }
     ensures parents_after { parents.new
         ≡ get_or (following parents.old) parents.old }
 {

@@ -1,0 +1,12 @@
+use Prim.Native.Nat.{◌-◌, ◌≤◌}
+use native.Mathlib.Omega.{arith}
+use lib.ListN.{length}
+use borrow.Author.Rules.{rules}
+use Rattle.dead_ends.proofs.ChildPass.{Naming, naming_start, naming_place, naming_on, naming_end}
+use Rattle.dead_ends.proofs.find_children.Goals as goal
+
+pub loop-i-init : goal.loop-i-init
+loop-i-init c = (omega arith, naming_start _)
+
+pub returns : goal.returns
+returns c = naming_end _ (omega (arith, c.loop-i.invariant.0)) c.loop-i.invariant.1

@@ -1,0 +1,15 @@
+use mathlib.Core.Path.{◌∙◌}
+use mathlib.Core.List.{[]}
+use Rattle.tree.specs.Passes.{network_at}
+use Rattle.tree.proofs.Vertices.{vertices_count}
+use Rattle.tree.proofs.UserCounts.{ones_capped, ones_count}
+use borrow.Author.Rules.{rules}
+use Rattle.tree.proofs.counts.write_user_counts.Goals as goal
+
+pub returns : goal.returns
+returns c =
+    let args = c.args in
+    let pre = c.requires in
+    c.write_cap_sums.ensures.out_after
+    ∙ ones_count c.write_all.ensures (network_at args.parents.now [] args.vertices.now)
+    (pre.ones_len ∙ vertices_count _ _ pre.listed)

@@ -1,0 +1,23 @@
+use Prim.Native.Nat.{ℕ, ◌+◌, ◌-◌, ◌≤◌, ◌<◌}
+use mathlib.Core.Path.{◌≡◌, sym, ap, ◌∙◌}
+use lib.ListN.{length, get_or}
+use native.Mathlib.Omega.{arith}
+use borrow.Author.Rules.{rules}
+use Rattle.basics.specs.Sum.{sum}
+use Rattle.game.specs.Tree.{of_arc}
+use Rattle.tree.specs.Passes.{Sound}
+use Rattle.tree.proofs.InwardPass.{passing_end}
+use Rattle.tree.proofs.SumPass.{total, Summing, summing_start, summing_on}
+use Rattle.tree.proofs.SumPass.{summing_at, summing_fits, summing_carry, summing_whole}
+use Rattle.tree.proofs.sums.add_up.Given as goal
+
+abbrev pub invariant-loop-k : goal.invariant-loop-k
+invariant-loop-k l =
+        Sound l.parents
+    × (0 < l.k)
+    × (l.k ≤ length l.parents + 1)
+    × (sum (length l.parents) (of_arc l.initial.out) ≤ 9223372036854775807)
+    × Summing l.parents l.initial.out l.out l.below (l.k - 1)
+
+abbrev pub decreases-loop-k : goal.decreases-loop-k
+decreases-loop-k l = l.k
