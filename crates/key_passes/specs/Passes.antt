@@ -45,8 +45,8 @@ pub record Addable (order links bounds : List ℕ) (own : ℕ → ℕ) : Type 0 
   pub bounded : (i : ℕ) → i < length order → of_arc bounds (at order i) ≤ most_total
 
 -- a vertex's own: what its unlinked child arcs' users and its member have at its pivot
-abbrev pub field_own : List ℕ → List ℕ → List ℕ → List ℕ → ℕ → ℕ
-field_own caps numbers rests pivots v = at rests v + share_at (at caps v) (at numbers v) (at pivots v)
+abbrev pub own_at : List ℕ → List ℕ → List ℕ → List ℕ → ℕ → ℕ
+own_at caps numbers rests pivots v = at rests v + share_at (at caps v) (at numbers v) (at pivots v)
 
 -- the list has such values at the vertices of the order
 pub record Evaluated (order links bounds : List ℕ) (own : ℕ → ℕ) (held : List ℕ) : Type 0 where
