@@ -105,11 +105,11 @@ module _ {bytes : List ℕ} where
         let more : k * suc n ≡ k * n + k = omega arith in
         rw more (stands_both (stands_rows n (λ i l. h i (omega arith))) (h n (omega arith)))
 
-    pub stands_row : {j : ℕ} → ((i : ℕ) → length (row i) ≡ k) → (n : ℕ) → Stands bytes at j (rows row n)
+    pub stands_row : ((i : ℕ) → length (row i) ≡ k) → (n : ℕ) {j : ℕ} → Stands bytes at j (rows row n)
         → (i : ℕ) → i < n → Stands bytes (at + k * i) k (row i)
     unfolding rows
-    stands_row {j} sized zero h i l = absurd (omega arith)
-    stands_row {j} sized (suc n) h i l =
+    stands_row sized zero {j} h i l = absurd (omega arith)
+    stands_row sized (suc n) {j} h i l =
         elim (dec_lt i n) [
           | yes m ↦ stands_row sized n (stands_first (rows row n) (row n) (rows_length row k sized n) h) i m
           | no m ↦

@@ -2,7 +2,7 @@
 ghost use Rattle.std.specs.Prelude.{◌≡◌, ◌≤◌};
 ghost use Rattle.job_bytes.specs.Versions.{version_number, floor_width};
 
-#[derive(Drop)]
+#[derive(Clone, Copy)]
 pub enum Version {
     // The filler is 0, and a member row has no floor.
     One,

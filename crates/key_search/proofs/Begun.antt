@@ -33,7 +33,7 @@ share_of true cap own number own_number key e f = rw (e, f refl)
 share_of false cap own number own_number key e f =
     rw e (omega (arith, smaller_is 0 (key / 1024 + pick (ltb number (key % 1024)) 1)))
 
-module _ {n : Network} {caps bounds : List ℕ} {last : ℕ} {order links lows highs rests pivots : List ℕ}
+module _ {n : Network} {caps : List ℕ} (bounds : List ℕ) {last : ℕ} {order links lows highs rests pivots : List ℕ}
     (s : State n caps (of_arc bounds) last order links lows highs rests) (chosen : Chosen order links lows highs pivots)
   where
     -- linked vertices try the same key

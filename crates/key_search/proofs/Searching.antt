@@ -106,7 +106,7 @@ module _ {parents vertices caps bounds caps_at numbers_at : List ℕ}
       adds : Adds order links bounds (own_at caps_at numbers_at rests pivots) value
       unfolding value
       adds =
-          held_adds s.state chosen caps_at numbers_at
+          held_adds _ s.state chosen caps_at numbers_at
           (λ v i. cap_at parents vertices ready.listed caps caps_at numbers_at ready.placed v i)
           (λ v i. number_at parents vertices ready.listed caps caps_at numbers_at ready.placed v i)
 

@@ -1,0 +1,18 @@
+use Prim.Native.Nat.{ℕ, suc, ◌+◌, ◌-◌, ◌*◌, ◌≤◌, ◌<◌}
+use mathlib.Core.Path.{◌≡◌, refl, sym, ap, ◌∙◌}
+use native.Mathlib.Nat.{mul-le-mul}
+use native.Mathlib.Numerals.{add-one}
+use native.Mathlib.Omega.{arith}
+use lib.ListN.{length, get_or}
+use borrow.Author.Rules.{rules}
+use Rattle.basics.specs.Sum.{sum₀}
+use Rattle.game.specs.Tree.{of_arc}
+use Rattle.answers.specs.Classes.{part}
+use Rattle.answers.proofs.ClassParts.{part_within, part_at}
+use Rattle.cost_classes.proofs.sums.sum_at.Given as goal
+
+abbrev pub invariant-loop-c : goal.invariant-loop-c
+invariant-loop-c l = (l.c ≤ l.classes) × (l.total ≤ l.c * 4294967295) × (l.total ≡ sum₀ l.c (λ d. of_arc (part l.m d l.costs) (suc l.i)))
+
+abbrev pub decreases-loop-c : goal.decreases-loop-c
+decreases-loop-c l = l.classes - l.c

@@ -1,0 +1,12 @@
+use Prim.Native.Nat.{◌-◌}
+use native.Mathlib.Omega.{arith}
+use Rattle.job_bytes.specs.Format.{column}
+use Rattle.job_bytes.proofs.Entries.{Front, front_start, front_on, front_end}
+use borrow.Author.Rules.{rules}
+use Rattle.job_bytes.proofs.columns.read_u64.Given as goal
+
+abbrev pub invariant-loop-i : goal.invariant-loop-i
+invariant-loop-i l = Front l.rows (column l.bytes l.width l.at l.stride) l.initial.out l.i l.out
+
+abbrev pub decreases-loop-i : goal.decreases-loop-i
+decreases-loop-i l = l.rows - l.i
