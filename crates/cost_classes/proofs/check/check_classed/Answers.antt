@@ -50,7 +50,8 @@ returns c =
     let few_accepted : arc_count_check (tree).parents ≡ accepted = opened c.check_count-count.ensures c.in-Accepted-count.is in
     let small : ((tree).classes ≤ most_classes) × (length (tree).parents ≤ most_arcs) = (
         (count_accepted most_classes 32 (tree).classes (several_accepted)).1,
-        (count_accepted most_arcs 1 (length (tree).parents) (few_accepted)).1, in
+        (count_accepted most_arcs 1 (length (tree).parents) (few_accepted)).1,
+        ) in
     rw (
       several_accepted,
       few_accepted,

@@ -36,7 +36,7 @@ pub total_of-requires : goal.total_of-requires
 total_of-requires c =
     let tree : Tree = tree_of c.args.parents.now c.args.costs.now c.args.marks.now in
     let marks : Marked (tree).parents (tree).marks = accepted_marked (tree) c.requires.marks_value in
-    let shares : c.write_by_arc.new.NEW3 ≡ by_arc (network (tree)) = c.write_by_arc.ensures
+    let shares : c.write_by_arc.new.shares ≡ by_arc (network (tree)) = c.write_by_arc.ensures
         ∙ ap by_arc
         (written_network _ _ (marks) c.requires.vertices_value _
         ∙ ap (λ (cs : List ℕ). network_of (tree).parents cs (tree).marks)
@@ -52,7 +52,7 @@ pub returns : goal.returns
 returns c =
     let tree : Tree = tree_of c.args.parents.now c.args.costs.now c.args.marks.now in
     let marks : Marked (tree).parents (tree).marks = accepted_marked (tree) c.requires.marks_value in
-    let shares : c.write_by_arc.new.NEW3 ≡ by_arc (network (tree)) = c.write_by_arc.ensures
+    let shares : c.write_by_arc.new.shares ≡ by_arc (network (tree)) = c.write_by_arc.ensures
         ∙ ap by_arc
         (written_network _ _ (marks) c.requires.vertices_value _
         ∙ ap (λ (cs : List ℕ). network_of (tree).parents cs (tree).marks)

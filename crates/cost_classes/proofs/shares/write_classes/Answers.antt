@@ -160,7 +160,7 @@ loop-c-preserved c =
     let long = ap length is ∙ by_arc_length (network (class_tree w at.c))
     ∙ sym (one_a_member w c.requires.classes_value vs c.args.out.now c.requires.vertices_value c.requires.out_len) in (
       omega arith,
-      as_long (length vs) at.c at.out class.new.NEW4 within long ∙ at.invariant.1,
+      as_long (length vs) at.c at.out class.new.out within long ∙ at.invariant.1,
       one_more (length vs) at.c (class_shares w) at.out _ _ (omega (arith, within)) at.invariant.2 is long,
       ap₂ (λ (paid cost : ℕ). set (set at.totals at.c paid) (most_classes + at.c) cost)
           (class.ensures.paid_value ∙ ap (λ (l : List ℕ). total (λ x. x) (by_arc (of_costs w l))) costs)

@@ -47,8 +47,8 @@ loop-low-preserved c =
         let args = c.args in
         raised (network_at args.parents.now args.costs.now args.vertices.now)
         (at.low + (at.high - at.low) / 2) in
-    let kept : length c.write_raised.new.NEW6 ≡ length c.args.parents.now = ap length c.write_raised.ensures ∙ list_length (raised_then) (length c.args.parents.now) in
-    let tried : let arc = c.args.arc in get_or c.write_raised.new.NEW6 (arc - 1) 0 ≡ raised_then arc = entry_of (length c.args.parents.now) (raised_then) c.write_raised.ensures
+    let kept : length c.write_raised.new.out ≡ length c.args.parents.now = ap length c.write_raised.ensures ∙ list_length (raised_then) (length c.args.parents.now) in
+    let tried : let arc = c.args.arc in get_or c.write_raised.new.out (arc - 1) 0 ≡ raised_then arc = entry_of (length c.args.parents.now) (raised_then) c.write_raised.ensures
         c.loop-low.invariant.1.high (omega arith) in
     let inv = c.loop-low.invariant in (
       inv.0,

@@ -1,0 +1,14 @@
+use Prim.Native.Nat.{◌-◌, ◌≤◌}
+use mathlib.Core.Path.{◌≡◌, sym}
+use native.Mathlib.Nat.{sub-zero}
+use native.Mathlib.Omega.{arith}
+use Rattle.job_form.specs.Form.{fillers_from}
+use Rattle.job_form.proofs.Rows.{rows_on, rows_stop, rows_end}
+use borrow.Author.Rules.{rules}
+use Rattle.job_form.proofs.check_rows.Given as goal
+
+abbrev pub invariant-loop-i : goal.invariant-loop-i
+invariant-loop-i l = (l.i ≤ l.arcs) × (fillers_from l.version l.bytes l.offset 0 l.arcs ≡ fillers_from l.version l.bytes l.offset l.i (l.arcs - l.i))
+
+abbrev pub decreases-loop-i : goal.decreases-loop-i
+decreases-loop-i l = l.arcs - l.i
