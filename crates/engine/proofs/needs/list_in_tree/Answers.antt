@@ -1,0 +1,18 @@
+use mathlib.Core.Path.{◌≡◌, ◌∙◌}
+use lib.ListN.{length}
+use borrow.Author.Rules.{rules}
+use Rattle.game.specs.Network.{whole_cost, sum_below}
+use Rattle.answer_forms.specs.Answer.{accepted}
+use Rattle.answers.specs.Checks.{length_check}
+use Rattle.answers.proofs.Accepted.{length_accepted}
+use Rattle.answer_forms.proofs.Opened.{opened, turned_away}
+use Rattle.tree.proofs.MembersListed.{marks_count}
+use Rattle.engine.proofs.needs.list_in_tree.Goals as goal
+
+pub returns : goal.returns
+unfolding whole_cost sum_below
+returns c =
+    let accepted_output : length_check (length c.args.parents.now) (length c.args.out.now) ≡ accepted = opened c.check_output-output.ensures c.in-Accepted.is in
+    let list = accepted_output in
+    let count = c.count_members-members.ensures
+    ∙ marks_count _ _ c.requires.marked in record {result_value = rw (list, count, c.write_needs-whole.ensures.value); out_after = rw list c.write_needs-whole.ensures.out_after; }

@@ -1,0 +1,17 @@
+use Prim.Native.Nat.{ℕ}
+use mathlib.Core.Path.{ap, ◌∙◌}
+use borrow.Author.Rules.{rules}
+use Rattle.game.specs.Tree.{tree_of}
+use Rattle.answers.specs.Checks.{proposal_check}
+use Rattle.answer_forms.proofs.Composed.{stopped, went_on}
+use Rattle.answer_forms.proofs.Opened.{opened}
+use Rattle.tree.proofs.TreeAccepted.{accepted_count}
+use Rattle.engine.proofs.proposed.check_proposed.Goals as goal
+
+pub returns : goal.returns
+returns c =
+    let args = c.args in
+    let t = tree_of args.parents.now args.costs.now args.marks.now in
+    let ok = opened c.check_tree-tree.ensures c.in-Accepted.is in
+    let members = c.count_members.ensures ∙ accepted_count t ok in
+    went_on ok (c.check_proposal.ensures ∙ ap (λ (n : ℕ). proposal_check n args.proposal.now) members)
