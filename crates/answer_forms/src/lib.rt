@@ -6,14 +6,14 @@ ghost use Rattle.answer_forms.specs.Answer.{refused};
 ghost use Rattle.answer_forms.specs.Checked.{check_of, refusal_of};
 
 // A refusal: its number, and the place where the fault stands.
-#[derive(Drop)]
+#[derive(Clone, Copy)]
 pub struct Refusal {
     pub number: u32,
     pub place: usize,
 }
 
 // What a check finds.
-#[derive(Drop)]
+#[derive(Clone, Copy)]
 pub enum Checked {
     Accepted,
     Refused(Refusal),

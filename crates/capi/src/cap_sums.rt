@@ -8,7 +8,7 @@ ghost use Rattle.capi.specs.Structs.{encode_cap_sums, decode_cap_sums};
 use engine::CapSumsFound;
 
 #[repr(C)]
-#[derive(Drop)]
+#[derive(Clone, Copy)]
 pub struct ZilqodurCapSums {
     pub refusal: u32,
     pub place: usize,

@@ -9,7 +9,7 @@ ghost use Rattle.capi.specs.Structs.{encode_check, decode_check};
 use answer_forms::Checked;
 
 #[repr(C)]
-#[derive(Drop)]
+#[derive(Clone, Copy)]
 pub struct ZilqodurCheck {
     pub refusal: u32,
     pub place: usize,

@@ -8,7 +8,7 @@ use engine::MemberCount;
 
 // The totals paid in each of four classes, then those of cost.
 #[repr(C)]
-#[derive(Drop)]
+#[derive(Clone, Copy)]
 pub struct ZilqodurClassSplit {
     pub refusal: u32,
     pub place: usize,

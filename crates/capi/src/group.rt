@@ -8,7 +8,7 @@ ghost use Rattle.capi.specs.Structs.{encode_group, decode_group};
 use engine::GroupCost;
 
 #[repr(C)]
-#[derive(Drop)]
+#[derive(Clone, Copy)]
 pub struct ZilqodurGroup {
     pub refusal: u32,
     pub place: usize,

@@ -10,7 +10,7 @@ use engine::GroupFound;
 // The verdict is 0 in a refusal, 1 where there is no group, 2 where one is found.
 // The words are 0 except where a group is found.
 #[repr(C)]
-#[derive(Drop)]
+#[derive(Clone, Copy)]
 pub struct ZilqodurSearch {
     pub refusal: u32,
     pub place: usize,

@@ -7,7 +7,7 @@ ghost use Rattle.capi.specs.Structs.{encode_job, decode_job};
 use job::JobRead;
 
 #[repr(C)]
-#[derive(Drop)]
+#[derive(Clone, Copy)]
 pub struct ZilqodurJob {
     pub refusal: u32,
     pub place: usize,

@@ -8,7 +8,7 @@ ghost use Rattle.capi.specs.Structs.{encode_job_length, decode_job_length};
 use job::JobLength;
 
 #[repr(C)]
-#[derive(Drop)]
+#[derive(Clone, Copy)]
 pub struct ZilqodurJobLength {
     pub refusal: u32,
     pub place: usize,

@@ -8,7 +8,7 @@ ghost use Rattle.capi.specs.Structs.{encode_level, decode_level};
 use engine::LevelSplit;
 
 #[repr(C)]
-#[derive(Drop)]
+#[derive(Clone, Copy)]
 pub struct ZilqodurLevel {
     pub refusal: u32,
     pub place: usize,

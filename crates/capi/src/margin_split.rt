@@ -8,7 +8,7 @@ ghost use Rattle.capi.specs.Structs.{encode_margin, decode_margin};
 use engine::MarginSplit;
 
 #[repr(C)]
-#[derive(Drop)]
+#[derive(Clone, Copy)]
 pub struct ZilqodurMargin {
     pub refusal: u32,
     pub place: usize,

@@ -8,7 +8,7 @@ ghost use Rattle.capi.specs.Structs.{encode_members, decode_members};
 use engine::MemberCount;
 
 #[repr(C)]
-#[derive(Drop)]
+#[derive(Clone, Copy)]
 pub struct ZilqodurMembers {
     pub refusal: u32,
     pub place: usize,

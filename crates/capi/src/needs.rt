@@ -8,7 +8,7 @@ ghost use Rattle.capi.specs.Structs.{encode_needs, decode_needs};
 use engine::NeedsFound;
 
 #[repr(C)]
-#[derive(Drop)]
+#[derive(Clone, Copy)]
 pub struct ZilqodurNeeds {
     pub refusal: u32,
     pub place: usize,

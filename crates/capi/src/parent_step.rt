@@ -8,7 +8,7 @@ use engine::Stepped;
 
 // The verdict is 0 in a refusal, 1 where the list is now the next one, 2 where it was the last one and has stayed.
 #[repr(C)]
-#[derive(Drop)]
+#[derive(Clone, Copy)]
 pub struct ZilqodurStep {
     pub refusal: u32,
     pub place: usize,

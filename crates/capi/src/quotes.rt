@@ -10,14 +10,14 @@ use events::{Asked, Change, Event, Quote, QuoteGiven, State};
 use limits::MOST_ARCS;
 
 #[repr(C)]
-#[derive(Drop)]
+#[derive(Clone, Copy)]
 pub struct ZilqodurQuote {
     pub event: ZilqodurEvent,
     pub committed: u32,
 }
 
 #[repr(C)]
-#[derive(Drop)]
+#[derive(Clone, Copy)]
 pub struct ZilqodurQuoteAnswer {
     pub refusal: u32,
     pub place: usize,

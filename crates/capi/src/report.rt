@@ -7,7 +7,7 @@ ghost use Rattle.capi.specs.Structs.{encode_report};
 use report_text::ROOM;
 
 #[repr(C)]
-#[derive(Drop)]
+#[derive(Clone, Copy)]
 pub struct ZilqodurReport {
     pub refusal: u32,
     pub place: usize,

@@ -12,7 +12,7 @@ use events::{Change, Event, State, StateAnswer};
 
 // `kind` is 0 for arrive and 1 for leave; every other number is a new cost, which alone looks at `amount`.
 #[repr(C)]
-#[derive(Drop)]
+#[derive(Clone, Copy)]
 pub struct ZilqodurEvent {
     pub vertex: usize,
     pub kind: u32,
@@ -20,7 +20,7 @@ pub struct ZilqodurEvent {
 }
 
 #[repr(C)]
-#[derive(Drop)]
+#[derive(Clone, Copy)]
 pub struct ZilqodurStateAnswer {
     pub refusal: u32,
     pub place: usize,

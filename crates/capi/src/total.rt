@@ -10,7 +10,7 @@ use engine::TotalFound;
 
 // The verdict is 0 in a refusal, 1 where the proposal adds up to the whole cost, 2 where it is off.
 #[repr(C)]
-#[derive(Drop)]
+#[derive(Clone, Copy)]
 pub struct ZilqodurTotal {
     pub refusal: u32,
     pub place: usize,

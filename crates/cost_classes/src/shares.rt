@@ -11,7 +11,7 @@ ghost use Rattle.answers.specs.Classes.{classed_of, classed_check, joined, class
 use crate::total::total_of;
 use limits::{MOST_ARCS, MOST_CLASSES};
 
-#[derive(Drop)]
+#[derive(Clone, Copy)]
 pub struct ClassTotals {
     pub paid: u64,
     pub cost: u64,

@@ -13,7 +13,7 @@ ghost use Rattle.engine.specs.Outcomes.{cap_sums_of};
 use answer_forms::{Checked, Refusal};
 use limits::MOST_ARCS;
 
-#[derive(Drop)]
+#[derive(Clone, Copy)]
 pub enum CapSumsFound {
     // The sum of all caps.
     Total(u64),

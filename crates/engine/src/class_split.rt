@@ -13,7 +13,7 @@ use limits::MOST_ARCS;
 
 // The answer, and beside it the totals paid in each of four classes, then those of cost; 0 for a class that is not in
 // use, and beside a refusal.
-#[derive(Drop)]
+#[derive(Clone, Copy)]
 pub struct ClassSplit {
     pub answer: MemberCount,
     pub totals: [u64; 8],

@@ -14,7 +14,7 @@ ghost use Rattle.engine.specs.Outcomes.{group_cost_of};
 use answer_forms::{Checked, Refusal};
 use limits::MOST_ARCS;
 
-#[derive(Drop)]
+#[derive(Clone, Copy)]
 pub enum GroupCost {
     Cost { size: usize, cost: u64 },
     Refused(Refusal),

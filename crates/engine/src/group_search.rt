@@ -14,7 +14,7 @@ use crate::proposed::check_proposed;
 use answer_forms::{Checked, Refusal};
 use limits::MOST_ARCS;
 
-#[derive(Drop)]
+#[derive(Clone, Copy)]
 pub enum GroupFound {
     // The greatest overpayment of a group, and the size of the group.
     Group { amount: u64, size: usize },
@@ -23,7 +23,7 @@ pub enum GroupFound {
 }
 
 // The answer, and beside it the group that is found; the words are 0 in every other answer.
-#[derive(Drop)]
+#[derive(Clone, Copy)]
 pub struct Searched {
     pub answer: GroupFound,
     pub group: [u64; 16],

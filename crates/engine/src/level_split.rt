@@ -15,7 +15,7 @@ use answer_forms::{Checked, Refusal};
 use level::Stop;
 use limits::MOST_ARCS;
 
-#[derive(Drop)]
+#[derive(Clone, Copy)]
 pub enum LevelSplit {
     // The number of members.
     Split(usize),

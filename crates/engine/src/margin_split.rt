@@ -14,7 +14,7 @@ ghost use Rattle.engine.specs.Outcomes.{margin_of};
 use answer_forms::{Checked, Refusal};
 use limits::MOST_ARCS;
 
-#[derive(Drop)]
+#[derive(Clone, Copy)]
 pub enum MarginSplit {
     // The widest margin, and the number of the arc's users.
     Split { margin: u64, users: usize },

@@ -6,7 +6,7 @@ ghost use Rattle.engine.specs.Outcomes.{member_count_of};
 
 use answer_forms::{Checked, Refusal};
 
-#[derive(Drop)]
+#[derive(Clone, Copy)]
 pub enum MemberCount {
     Members(usize),
     Refused(Refusal),

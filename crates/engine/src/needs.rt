@@ -12,7 +12,7 @@ ghost use Rattle.engine.specs.Outcomes.{needs_of};
 use answer_forms::{Checked, Refusal};
 use limits::MOST_ARCS;
 
-#[derive(Drop)]
+#[derive(Clone, Copy)]
 pub enum NeedsFound {
     Needs { whole: u64, members: usize },
     Refused(Refusal),

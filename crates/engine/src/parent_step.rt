@@ -5,7 +5,7 @@ ghost use Rattle.engine.specs.Outcomes.{step_of};
 
 use answer_forms::{Checked, Refusal};
 
-#[derive(Drop)]
+#[derive(Clone, Copy)]
 pub enum Stepped {
     Next,
     End,

@@ -8,7 +8,7 @@ use crate::proposed::check_proposed;
 use answer_forms::{Checked, Refusal};
 use limits::MOST_ARCS;
 
-#[derive(Drop)]
+#[derive(Clone, Copy)]
 pub enum TotalFound {
     // The proposal less the whole cost, 0 included.
     Difference(i64),

@@ -13,7 +13,7 @@ use answer_forms::Refusal;
 use engine::MemberCount;
 use limits::MOST_ARCS;
 
-#[derive(Drop)]
+#[derive(Clone, Copy)]
 pub enum QuoteGiven {
     // The number of members after the event, and the quote.
     Quoted { members: usize, quote: Quote },
@@ -21,7 +21,7 @@ pub enum QuoteGiven {
 }
 
 // The answer, and beside it the shares after the event; these are 0 in a refusal.
-#[derive(Drop)]
+#[derive(Clone, Copy)]
 pub struct Asked {
     pub answer: QuoteGiven,
     pub shares: [u64; MOST_ARCS],

@@ -10,7 +10,7 @@ ghost use Rattle.events.specs.Outcomes.{change_of};
 
 use answer_forms::{Checked, refusals, refuse};
 
-#[derive(Drop)]
+#[derive(Clone, Copy)]
 pub enum Change {
     Arrive,
     Leave,
@@ -18,7 +18,7 @@ pub enum Change {
 }
 
 // A vertex, and the change there.
-#[derive(Drop)]
+#[derive(Clone, Copy)]
 pub struct Event {
     pub vertex: usize,
     pub change: Change,

@@ -15,7 +15,7 @@ use limits::MOST_ARCS;
 // A tree, its by-arc shares, and the number of events committed so far. Entry 0 of `shares` is that of member 0, entry
 // 0 of the other lists that of arc 1.
 #[repr(C)]
-#[derive(Drop)]
+#[derive(Clone, Copy)]
 pub struct State {
     pub arcs: usize,
     pub parents: [u16; MOST_ARCS],
@@ -26,7 +26,7 @@ pub struct State {
 }
 
 // What an entry gives back: its answer, and the state beside it.
-#[derive(Drop)]
+#[derive(Clone, Copy)]
 pub struct StateAnswer {
     pub answer: MemberCount,
     pub state: State,

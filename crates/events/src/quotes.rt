@@ -8,7 +8,7 @@ use answer_forms::{Checked, refusals, refuse};
 use limits::MOST_EVENTS;
 
 // An event, and the number of events committed where it was asked for.
-#[derive(Drop)]
+#[derive(Clone, Copy)]
 pub struct Quote {
     pub event: Event,
     pub committed: u32,

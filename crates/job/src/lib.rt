@@ -8,7 +8,7 @@ use answer_forms::{Checked, Refusal};
 use job_bytes::Version;
 pub use writer::{JobLength, job_length, write_job};
 
-#[derive(Drop)]
+#[derive(Clone, Copy)]
 pub enum JobRead {
     // The number of arcs and of members, and the length of the note.
     Read {

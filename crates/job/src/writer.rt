@@ -10,7 +10,7 @@ use engine::MemberCount;
 use job_checks::{check_space, dead_end_members, tree_found};
 use job_form::LONGEST_NOTE;
 
-#[derive(Drop)]
+#[derive(Clone, Copy)]
 pub enum JobLength {
     // The number of bytes of the job.
     Length(usize),

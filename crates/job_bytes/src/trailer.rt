@@ -4,7 +4,7 @@ ghost use Rattle.job_bytes.specs.Inner.{TrailerOf};
 
 use crate::number::number_at;
 
-#[derive(Drop)]
+#[derive(Clone, Copy)]
 pub struct Trailer {
     pub arc_offset: usize,
     pub member_offset: usize,

@@ -12,7 +12,7 @@ use crate::adjusted::write_adjusted;
 use answer_forms::refusals;
 use limits::MOST_ARCS;
 
-#[derive(Drop)]
+#[derive(Clone, Copy)]
 pub enum Stop {
     Nothing,
     // 9 or 28; the shortfall is 0 with 28.

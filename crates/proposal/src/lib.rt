@@ -16,7 +16,7 @@ pub fn less(a: u64, b: u64) -> i64
 }
 
 // The sums of the positive and of the negative parts.
-#[derive(Drop)]
+#[derive(Clone, Copy)]
 pub struct Parts {
     pub plus: u64,
     pub minus: u64,

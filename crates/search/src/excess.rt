@@ -12,7 +12,7 @@ ghost use Rattle.search.specs.Passes.{Exceeding};
 
 use limits::MOST_ARCS;
 
-#[derive(Drop)]
+#[derive(Clone, Copy)]
 pub struct Excesses {
     // All excess, that of the arcs from the source.
     pub total: u64,

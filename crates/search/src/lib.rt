@@ -14,7 +14,7 @@ ghost use Rattle.answers.specs.Checks.{proposal_check};
 ghost use Rattle.tree.specs.Passes.{Sound, Costed, Marked};
 
 // What the named group overpays, and its words.
-#[derive(Drop)]
+#[derive(Clone, Copy)]
 pub struct Found {
     pub amount: u64,
     pub group: [u64; 16],

@@ -6,7 +6,7 @@ ghost use Rattle.turns.specs.Bound.{Ends};
 // Every key is below it.
 const KEY_LIMIT: u32 = 1048576;
 
-#[derive(Drop)]
+#[derive(Clone, Copy)]
 pub struct KeyEnds {
     pub least: u32,
     pub greatest: u32,
