@@ -1,3 +1,4 @@
+#![tactic(auto)]
 // Writing text into a lent buffer at a place. Each function answers the place after what it wrote.
 mod number;
 
