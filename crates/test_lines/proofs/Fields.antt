@@ -10,7 +10,7 @@ use lib.Dec.{eqb, leb, ltb}
 use lib.ListN.{length, get_or, take, drop, length-drop}
 use lib.Seq.{take-length, get_or-drop}
 use borrow.Author.Tests.{lt-ltb, le-ltb, le-leb, lt-leb}
-use Rattle.bytes.specs.Bytes.{index_of, index_after, slice}
+use Rattle.test_lines.specs.Bytes.{index_of, index_after, slice}
 use Rattle.test_lines.specs.Fields.{after, fields_of, fields_from}
 
 -- one byte more before a line whose first field is known

@@ -3,3 +3,4 @@ mod Fields
 mod HexLaws
 mod Lists
 mod Rests
+mod Searches

@@ -1,7 +1,7 @@
 -- What the contracts say of bytes in hexadecimal.
 use Rattle.std.specs.Prelude.{ℕ, ◌+◌, ◌*◌, ◌/◌, ◌%◌, ◌<◌, ◌≤◌, ◌≡◌, Bool, true, cond, ◌&&◌, ◌||◌, List, [], ◌∷◌, eqb, leb, ltb, get_or, length}
 use Rattle.std.proofs.Math.Seq.{paste}
-use Rattle.bytes.specs.Bytes.{index_of}
+use Rattle.test_lines.specs.Bytes.{index_of}
 
 -- the digits 0 to 9 and a to f, each at its value
 unfoldable pub DIGITS : List ℕ

@@ -1,3 +1,4 @@
+pub mod Bytes
 pub mod Fields
 pub mod Hex
 pub mod Lists

@@ -2,6 +2,8 @@
 ghost use Rattle.std.specs.Prelude.{[], ◌≡◌, ltb, drop, get_or, length};
 ghost use Rattle.test_lines.specs.Fields.{First, fields_from, fields_of};
 
+use crate::scan;
+
 // Where the next field starts: past the line's end after the last field.
 fn next_start(line: &[u8], at: usize) -> usize
     ensures { fields_from line.now result ≡ drop 1 (fields_from line.now at) }
@@ -9,7 +11,7 @@ fn next_start(line: &[u8], at: usize) -> usize
     if line.len() < at {
         return at;
     }
-    bytes::scan::find(line, at, line.len(), b' ') + 1
+    scan::find(line, at, line.len(), b' ') + 1
 }
 
 // Where field n starts: past the line's end where there is none.
@@ -39,7 +41,7 @@ pub fn nth(line: &[u8], n: usize) -> &[u8]
     if line.len() < from {
         return &line[0..0];
     }
-    let to = bytes::scan::find(line, from, line.len(), b' ');
+    let to = scan::find(line, from, line.len(), b' ');
     &line[from..to]
 }
 
@@ -49,7 +51,7 @@ pub fn find(line: &[u8], n: usize, word: &[u8]) -> usize
 {
     let mut i = 0;
     while i < n {
-        if check::same(nth(line, i), word) {
+        if nth(line, i) == word {
             return i;
         }
         i += 1;

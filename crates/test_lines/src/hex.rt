@@ -4,13 +4,14 @@ ghost use Rattle.std.proofs.Math.Seq.{paste};
 ghost use Rattle.test_lines.specs.Hex.{Digits, HexRead, all_digits, bytes_of, digit_of, is_dash, is_digits, is_hex};
 
 use crate::list::Entries;
+use crate::scan;
 
 // A digit's value; 16 for another byte.
 fn digit(byte: u8) -> usize
     ensures value { result ≡ digit_of byte }
     ensures upper_bound { result ≤ 16 }
 {
-    bytes::scan::find(b"0123456789abcdef", 0, 16, byte)
+    scan::find(b"0123456789abcdef", 0, 16, byte)
 }
 
 fn all_digits(s: &[u8]) -> bool

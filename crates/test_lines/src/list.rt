@@ -2,7 +2,7 @@
 ghost use Rattle.std.specs.Prelude.{◌≤◌, length};
 ghost use Rattle.test_lines.specs.Lists.{FirstAt, Front, MOST};
 
-use crate::{number, width};
+use crate::{number, scan, width};
 
 // The most entries of a list.
 pub const MOST: usize = 1100;
@@ -23,7 +23,7 @@ const UNREADABLE: Entries = Entries {
 pub fn first_entry(s: &[u8]) -> usize
     ensures { FirstAt s.now result }
 {
-    if check::same(s, b"-") { 2 } else { 0 }
+    if s == b"-".as_slice() { 2 } else { 0 }
 }
 
 // A list of at most room numbers, or signed ones' bits, up to most, into the front of out.
@@ -35,7 +35,7 @@ fn read_entries(s: &[u8], signed: bool, most: u64, room: usize, out: &mut [u64])
     let mut n = 0;
     let mut at = first_entry(s);
     while at <= s.len() {
-        let end = bytes::scan::find(s, at, s.len(), b',');
+        let end = scan::find(s, at, s.len(), b',');
         let entry = number::entry(&s[at..end], signed, most);
         if !entry.readable {
             return UNREADABLE;

@@ -1,0 +1,16 @@
+-- A part of a list, and where a byte stands first.
+use Rattle.std.specs.Prelude.{ℕ, zero, suc, Bool, true, false, List, [], ◌∷◌, eqb, take, drop}
+
+-- the entries from place `from` to before place `to`
+unfoldable pub slice : ℕ → ℕ → List ℕ → List ℕ
+slice from to xs = drop from (take to xs)
+
+-- the place of a byte, where it stands in front or k places further on
+unfoldable pub index_after : Bool → ℕ → ℕ
+index_after true k = 0
+index_after false k = suc k
+
+-- the first place where the byte stands; the list's length where there is none
+unfoldable pub index_of : ℕ → List ℕ → ℕ
+index_of byte [] = 0
+index_of byte (x ∷ xs) = index_after (eqb x byte) (index_of byte xs)
