@@ -1,5 +1,5 @@
 -- A part of a list, and where a byte stands first.
-use Rattle.std.specs.Prelude.{ℕ, zero, suc, Bool, true, false, List, [], ◌∷◌, eqb, take, drop}
+use Rattle.std.specs.Prelude.{ℕ, suc, Bool, true, false, List, [], ◌∷◌, eqb, take, drop}
 
 -- the entries from place `from` to before place `to`
 unfoldable pub slice : ℕ → ℕ → List ℕ → List ℕ

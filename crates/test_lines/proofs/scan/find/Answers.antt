@@ -1,6 +1,6 @@
-use Rattle.std.proofs.Common.{◌≡◌, ◌<◌, ◌≤◌, get_or, length, take, ◌∙◌, arith}
+use Rattle.std.proofs.Common.{◌≡◌, get_or, length, take, ◌∙◌, arith}
 use Rattle.std.proofs.lemmas.List.{get_or-take, length-take-le}
-use Rattle.test_lines.specs.Bytes.{index_of, slice}
+use Rattle.test_lines.specs.Bytes.{slice}
 use Rattle.test_lines.proofs.Searches.{stands, passes, ends}
 use Rattle.test_lines.proofs.scan.find.Goals as goal
 
@@ -11,7 +11,7 @@ returns-then-xs-at-clause-value c =
     let i = c.loop-at.at in
     let long : length (take a.to a.xs.now) ≡ a.to = length-take-le a.to a.xs.now c.requires.to_in_bounds in
     let here : get_or (take a.to a.xs.now) i 0 ≡ a.byte =
-        get_or-take a.to a.xs.now i 0 c.loop-at-test.true ∙ c.if-xs-at.true in
+    get_or-take a.to a.xs.now i 0 c.loop-at-test.true ∙ c.if-xs-at.true in
     omega (arith, stands a.byte (take a.to a.xs.now) i (omega arith) here)
 
 pub loop-at-preserved : goal.loop-at-preserved

@@ -1,4 +1,4 @@
-use Rattle.std.proofs.Common.{◌≡◌, ◌+◌, ◌≤◌, take, drop}
+use Rattle.std.proofs.Common.{◌≡◌, ◌+◌, take, drop}
 use Rattle.test_lines.specs.Bytes.{index_of}
 use Rattle.test_lines.proofs.scan.find.Given as goal
 
