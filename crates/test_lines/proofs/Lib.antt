@@ -1,6 +1,5 @@
 mod Copied
 mod Fields
 mod HexLaws
-mod Lists
 mod Rests
 mod Searches
