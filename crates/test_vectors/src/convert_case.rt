@@ -3,6 +3,7 @@ use crate::command::Command;
 use crate::job_lists::MOST_BYTES;
 use crate::{print, write_case};
 use job::JobLength;
+use std::io::{Result, Write};
 use test_lines::{field, hex, number};
 
 fn converted(c: Command, bytes: &[u8], out: &mut [u8]) -> JobLength {
@@ -12,24 +13,24 @@ fn converted(c: Command, bytes: &[u8], out: &mut [u8]) -> JobLength {
     }
 }
 
-fn convert(c: Command, bytes: &[u8], out: &mut [u8]) {
+fn convert<W: Write>(writer: &mut W, c: Command, bytes: &[u8], out: &mut [u8]) -> Result<()> {
     let answer = converted(c, bytes, out);
-    write_case::written(answer, out);
+    write_case::written(writer, answer, out)
 }
 
 // Field 1 has the bytes, field 2 the output's length.
-pub fn run(c: Command, line: &[u8]) {
+pub fn run<W: Write>(writer: &mut W, c: Command, line: &[u8]) -> Result<()> {
     let mut bytes = [0u8; MOST_BYTES];
     let job = hex::read(field::nth(line, 1), &mut bytes);
     let wanted = number::up_to(field::nth(line, 2), MOST_BYTES as u64);
     if !job.readable {
-        return print::bad_case();
+        return print::bad_case(writer);
     }
     if !wanted.readable {
-        return print::bad_case();
+        return print::bad_case(writer);
     }
     let k = job.count;
     let n = wanted.value as usize;
     let mut out = [9u8; MOST_BYTES];
-    convert(c, &bytes[0..k], &mut out[0..n]);
+    convert(writer, c, &bytes[0..k], &mut out[0..n])
 }

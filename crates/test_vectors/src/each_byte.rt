@@ -2,6 +2,8 @@
 ghost use Rattle.std.specs.Prelude.{◌+◌, ◌<◌, length};
 
 use crate::case;
+use std::io::{Result, Write};
+use test_lines::scan;
 
 fn digit(value: usize) -> u8
     requires { value < 16 }
@@ -11,29 +13,30 @@ fn digit(value: usize) -> u8
 }
 
 // The digits stand from place at on.
-fn run_each(line: &mut [u8], at: usize)
+fn run_each<W: Write>(writer: &mut W, line: &mut [u8], at: usize) -> Result<()>
     requires { at + 1 < length line.old }
 {
     let mut byte = 0;
     while byte < 256 {
         line[at] = digit(byte / 16);
         line[at + 1] = digit(byte % 16);
-        case::run(line);
+        case::run(writer, line)?;
         byte += 1;
     }
+    Ok(())
 }
 
-pub fn run(line: &mut [u8]) {
-    let at = bytes::scan::find(line, 0, line.len(), b'*');
+pub fn run<W: Write>(writer: &mut W, line: &mut [u8]) -> Result<()> {
+    let at = scan::find(line, 0, line.len(), b'*');
     if line.len() <= at {
-        return case::run(line);
+        return case::run(writer, line);
     }
     let next = at + 1;
     if line.len() <= next {
-        return case::run(line);
+        return case::run(writer, line);
     }
     if line[next] != b'*' {
-        return case::run(line);
+        return case::run(writer, line);
     }
-    run_each(line, at);
+    run_each(writer, line, at)
 }

@@ -3,10 +3,11 @@
 use crate::{print, step_text, steps};
 use events::State;
 use limits::MOST_ARCS;
+use std::io::{Result, Write};
 use test_lines::{field, list, number};
 
 // Field 1 has the number of arcs, fields 2 to 5 the lists, field 6 the number of events committed, field 7 the steps.
-pub fn run(line: &[u8]) {
+pub fn run<W: Write>(writer: &mut W, line: &[u8]) -> Result<()> {
     let mut parents = [0u16; MOST_ARCS];
     let mut costs = [0u32; MOST_ARCS];
     let mut marks = [0u16; MOST_ARCS];
@@ -25,7 +26,7 @@ pub fn run(line: &[u8]) {
         && committed.readable
         && step_text::all_readable(field::nth(line, 7));
     if !readable {
-        return print::bad_case();
+        return print::bad_case(writer);
     }
     let state = State {
         arcs: arcs.value as usize,
@@ -35,5 +36,5 @@ pub fn run(line: &[u8]) {
         shares,
         committed: committed.value as u32,
     };
-    steps::run(state, field::nth(line, 7));
+    steps::run(writer, state, field::nth(line, 7))
 }

@@ -1,7 +1,7 @@
 // Reading events: a plus and a vertex for arrive, a minus and a vertex for leave, a vertex, "=" and an amount for a new
 // cost.
 use events::{Change, Event};
-use test_lines::number;
+use test_lines::{number, scan};
 
 // An event; one at vertex 0 where the bytes are none.
 #[derive(Drop)]
@@ -33,7 +33,7 @@ fn at_vertex(s: &[u8], change: Change) -> EventRead {
 }
 
 fn new_cost(s: &[u8]) -> EventRead {
-    let end = bytes::scan::find(s, 0, s.len(), b'=');
+    let end = scan::find(s, 0, s.len(), b'=');
     if s.len() <= end {
         return unreadable();
     }

@@ -7,6 +7,7 @@ use crate::job_lists::MOST_BYTES;
 use crate::print::others;
 use crate::{job_lists, print};
 use job::JobRead;
+use std::io::{Result, Write};
 use test_lines::list::MOST;
 use test_lines::{field, hex, list};
 
@@ -31,7 +32,14 @@ fn kept(
     job_lists::members_kept(members, caps, proposals)
 }
 
-fn job_read(answer: JobRead, parents: &[u16], costs: &[u32], caps: &[u64], proposals: &[i64])
+fn job_read<W: Write>(
+    writer: &mut W,
+    answer: JobRead,
+    parents: &[u16],
+    costs: &[u32],
+    caps: &[u64],
+    proposals: &[i64],
+) -> Result<()>
     requires parents_len_bound { length parents.now ≤ MOST }
     requires costs_len_bound { length costs.now ≤ MOST }
 {
@@ -41,34 +49,42 @@ fn job_read(answer: JobRead, parents: &[u16], costs: &[u32], caps: &[u64], propo
             members,
             note,
         } => {
-            job_lists::counts(arcs, members, note);
-            job_lists::arc_fronts(arcs, parents, costs);
-            job_lists::member_fronts(members, caps, proposals);
-            others(kept(arcs, members, parents, costs, caps, proposals));
+            job_lists::counts(writer, arcs, members, note)?;
+            job_lists::arc_fronts(writer, arcs, parents, costs)?;
+            job_lists::member_fronts(writer, members, caps, proposals)?;
+            others(writer, kept(arcs, members, parents, costs, caps, proposals))
         }
         JobRead::Refused(r) => {
-            print::refusal(r);
-            others(kept(0, 0, parents, costs, caps, proposals));
+            print::refusal(writer, r)?;
+            others(writer, kept(0, 0, parents, costs, caps, proposals))
         }
     }
 }
 
-fn read(
+fn read<W: Write>(
+    writer: &mut W,
     bytes: &[u8],
     parents: &mut [u16],
     costs: &mut [u32],
     caps: &mut [u64],
     proposals: &mut [i64],
-)
+) -> Result<()>
     requires parents_len_bound { length parents.old ≤ MOST }
     requires costs_len_bound { length costs.old ≤ MOST }
 {
     let answer = job::read(bytes, parents, costs, caps, proposals);
-    job_read(answer, parents, costs, caps, proposals);
+    job_read(writer, answer, parents, costs, caps, proposals)
 }
 
 // The lists by their lengths.
-fn with_lists(bytes: &[u8], parents: usize, costs: usize, caps: usize, proposals: usize)
+fn with_lists<W: Write>(
+    writer: &mut W,
+    bytes: &[u8],
+    parents: usize,
+    costs: usize,
+    caps: usize,
+    proposals: usize,
+) -> Result<()>
     requires parents_bound { parents ≤ MOST }
     requires costs_bound { costs ≤ MOST }
     requires caps_bound { caps ≤ MOST }
@@ -79,32 +95,34 @@ fn with_lists(bytes: &[u8], parents: usize, costs: usize, caps: usize, proposals
     let mut k = [9u64; MOST];
     let mut s = [9i64; MOST];
     read(
+        writer,
         bytes,
         &mut p[0..parents],
         &mut c[0..costs],
         &mut k[0..caps],
         &mut s[0..proposals],
-    );
+    )
 }
 
 // Field 1 has the lengths, field 2 the bytes.
-pub fn run(line: &[u8]) {
+pub fn run<W: Write>(writer: &mut W, line: &[u8]) -> Result<()> {
     let mut lengths = [0u64; LISTS];
     let lists = list::read(field::nth(line, 1), MOST as u64, &mut lengths);
     let mut bytes = [0u8; MOST_BYTES];
     let job = hex::read(field::nth(line, 2), &mut bytes);
     if lists.count != LISTS {
-        return print::bad_case();
+        return print::bad_case(writer);
     }
     if !job.readable {
-        return print::bad_case();
+        return print::bad_case(writer);
     }
     let n = job.count;
     with_lists(
+        writer,
         &bytes[0..n],
         lengths[0] as usize,
         lengths[1] as usize,
         lengths[2] as usize,
         lengths[3] as usize,
-    );
+    )
 }

@@ -3,6 +3,7 @@ ghost use Rattle.std.specs.Prelude.{◌≤◌, length};
 ghost use Rattle.test_lines.specs.Lists.{MOST};
 
 use crate::print::front;
+use std::io::{Result, Write};
 use test_lines::print::{labelled, list, list_signed, list16, list32};
 use test_lines::rest;
 
@@ -10,41 +11,46 @@ use test_lines::rest;
 pub const MOST_BYTES: usize = 33500;
 
 // What a reader answers.
-pub fn counts(arcs: usize, members: usize, note: usize) {
-    labelled(b"read ", arcs as u64);
-    labelled(b" ", members as u64);
-    labelled(b" ", note as u64);
+pub fn counts<W: Write>(writer: &mut W, arcs: usize, members: usize, note: usize) -> Result<()> {
+    labelled(writer, b"read ", arcs as u64)?;
+    labelled(writer, b" ", members as u64)?;
+    labelled(writer, b" ", note as u64)
 }
 
 // The first n entries.
-pub fn front16(n: usize, entries: &[u16])
+pub fn front16<W: Write>(writer: &mut W, n: usize, entries: &[u16]) -> Result<()>
     requires { length entries.now ≤ MOST }
 {
     let k = front(n, entries.len());
-    list16(&entries[0..k]);
+    list16(writer, &entries[0..k])
 }
 
 // As front16.
-pub fn front64(n: usize, entries: &[u64]) {
+pub fn front64<W: Write>(writer: &mut W, n: usize, entries: &[u64]) -> Result<()> {
     let k = front(n, entries.len());
-    list(&entries[0..k]);
+    list(writer, &entries[0..k])
 }
 
 // The fronts of the lists with an entry an arc that both versions have.
-pub fn arc_fronts(n: usize, parents: &[u16], costs: &[u32])
+pub fn arc_fronts<W: Write>(writer: &mut W, n: usize, parents: &[u16], costs: &[u32]) -> Result<()>
     requires parents_len_bound { length parents.now ≤ MOST }
     requires costs_len_bound { length costs.now ≤ MOST }
 {
-    front16(n, parents);
+    front16(writer, n, parents)?;
     let k = front(n, costs.len());
-    list32(&costs[0..k]);
+    list32(writer, &costs[0..k])
 }
 
 // As arc_fronts, with an entry a member.
-pub fn member_fronts(n: usize, caps: &[u64], proposals: &[i64]) {
-    front64(n, caps);
+pub fn member_fronts<W: Write>(
+    writer: &mut W,
+    n: usize,
+    caps: &[u64],
+    proposals: &[i64],
+) -> Result<()> {
+    front64(writer, n, caps)?;
     let k = front(n, proposals.len());
-    list_signed(&proposals[0..k]);
+    list_signed(writer, &proposals[0..k])
 }
 
 pub fn arcs_kept(n: usize, parents: &[u16], costs: &[u32]) -> bool

@@ -1,56 +1,59 @@
-// The lines of standard input, whose bytes come in parts: each line is run as a case where it ends.
-ghost use Rattle.std.specs.Prelude.{◌≤◌, length};
+// The lines of the input, whose bytes come in parts: each line is run as a case where it ends.
+ghost use Rattle.std.specs.Prelude.{◌≤◌, length, IfOk};
 
 use crate::each_byte;
-use libc::STDIN_FILENO;
+use std::io::{Read, Result, Write};
 
 // The length of the line so far after one byte more; of a line longer than its room the rest is left out.
-fn take_byte(byte: u8, line: &mut [u8], n: usize) -> usize
+fn take_byte<W: Write>(writer: &mut W, byte: u8, line: &mut [u8], n: usize) -> Result<usize>
     requires { n ≤ length line.old }
-    ensures { result ≤ length line.old }
+    ensures { IfOk result (λ k. k ≤ length line.old) }
 {
     if byte == b'\n' {
-        each_byte::run(&mut line[0..n]);
-        return 0;
+        each_byte::run(writer, &mut line[0..n])?;
+        return Ok(0);
     }
     if line.len() <= n {
-        return n;
+        return Ok(n);
     }
     line[n] = byte;
-    n + 1
+    Ok(n + 1)
 }
 
 // As take_byte, after all bytes of a part.
-fn take_part(part: &[u8], line: &mut [u8], start: usize) -> usize
+fn take_part<W: Write>(writer: &mut W, part: &[u8], line: &mut [u8], start: usize) -> Result<usize>
     requires { start ≤ length line.old }
-    ensures { result ≤ length line.old }
+    ensures { IfOk result (λ k. k ≤ length line.old) }
 {
     let mut n = start;
-    let mut i = 0;
-    while i < part.len() {
-        n = take_byte(part[i], line, n);
-        i += 1;
+    for byte in part {
+        n = take_byte(writer, *byte, line, n)?;
     }
-    n
+    Ok(n)
 }
 
 // A last line with no line end after it.
-fn run_rest(line: &mut [u8]) {
+fn run_rest<W: Write>(writer: &mut W, line: &mut [u8]) -> Result<()> {
     if 0 < line.len() {
-        each_byte::run(line);
+        each_byte::run(writer, line)?;
     }
+    Ok(())
 }
 
-// Nothing says that the input ends, so the turns are counted down, from a number that no run uses up.
-pub fn run_all(part: &mut [u8], line: &mut [u8]) {
+// Nothing says that the input ends, so the turns are counted, up to a number that no run comes to.
+pub fn run_all<R: Read, W: Write>(
+    reader: &mut R,
+    writer: &mut W,
+    part: &mut [u8],
+    line: &mut [u8],
+) -> Result<()> {
     let mut n = 0;
-    let mut turns = u64::MAX;
-    while 0 < turns {
-        let got = io::read_full(STDIN_FILENO, part);
+    for _ in 0..u64::MAX {
+        let got = reader.read(part)?;
         if got == 0 {
-            return run_rest(&mut line[0..n]);
+            return run_rest(writer, &mut line[0..n]);
         }
-        n = take_part(&part[..got], line, n);
-        turns -= 1;
+        n = take_part(writer, &part[..got], line, n)?;
     }
+    Ok(())
 }

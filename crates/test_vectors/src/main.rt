@@ -1,3 +1,4 @@
+#![tactic(auto)]
 // Runs the engine's entries on the cases of standard input, one a line, and prints a line each.
 mod case;
 mod class_case;
@@ -18,11 +19,19 @@ mod step_text;
 mod steps;
 mod write_case;
 
+use std::io;
+use std::io::{BufWriter, Write};
+
 // The room for a line: a job has two digits a byte, and up to job_lists::MOST_BYTES bytes.
 const MOST_LINE: usize = 70000;
 
-fn main() {
-    let mut part = io::large_buffer();
+// The bytes of the input that are read at once.
+const MOST_PART: usize = 65536;
+
+fn main(rt: HostRuntime) -> io::Result<()> {
+    let mut part = [0u8; MOST_PART];
     let mut line = [0u8; MOST_LINE];
-    lines::run_all(&mut part, &mut line);
+    let mut writer = BufWriter::new(rt.alloc(), io::writer(&rt))?;
+    lines::run_all(&mut rt.reader(), &mut writer, &mut part, &mut line)?;
+    writer.flush()
 }

@@ -6,6 +6,7 @@ ghost use Rattle.test_lines.specs.Lists.{MOST};
 use crate::command::Command;
 use crate::print;
 use engine::Stepped;
+use std::io::{Result, Write};
 use test_lines::list::MOST;
 use test_lines::print::{labelled, text};
 use test_lines::{field, list};
@@ -13,11 +14,11 @@ use test_lines::{field, list};
 // More than the lists of any walk.
 const MOST_LISTS: u64 = 1000;
 
-fn step(parents: &mut [u16])
+fn step<W: Write>(writer: &mut W, parents: &mut [u16]) -> Result<()>
     requires { length parents.old ≤ MOST }
 {
-    print::stepped(engine::next_parents(parents));
-    test_lines::print::list16(parents);
+    print::stepped(writer, engine::next_parents(parents))?;
+    test_lines::print::list16(writer, parents)
 }
 
 fn is_next(s: Stepped) -> bool {
@@ -40,30 +41,30 @@ fn walked(parents: &mut [u16]) -> u64 {
 }
 
 // The step from the last list is made once more, and its answer is printed.
-fn walk(parents: &mut [u16])
+fn walk<W: Write>(writer: &mut W, parents: &mut [u16]) -> Result<()>
     requires { length parents.old ≤ MOST }
 {
-    labelled(b"lists ", walked(parents));
-    text(b", ");
-    step(parents);
+    labelled(writer, b"lists ", walked(parents))?;
+    text(writer, b", ")?;
+    step(writer, parents)
 }
 
-fn on_list(c: Command, parents: &mut [u16])
+fn on_list<W: Write>(writer: &mut W, c: Command, parents: &mut [u16]) -> Result<()>
     requires { length parents.old ≤ MOST }
 {
     match c {
-        Command::Walk => walk(parents),
-        _ => step(parents),
+        Command::Walk => walk(writer, parents),
+        _ => step(writer, parents),
     }
 }
 
 // Field 1 has the list.
-pub fn run(c: Command, line: &[u8]) {
+pub fn run<W: Write>(writer: &mut W, c: Command, line: &[u8]) -> Result<()> {
     let mut parents = [0u16; MOST];
     let found = list::read16(field::nth(line, 1), &mut parents);
     if !found.readable {
-        return print::bad_case();
+        return print::bad_case(writer);
     }
     let m = found.count;
-    on_list(c, &mut parents[0..m]);
+    on_list(writer, c, &mut parents[0..m])
 }

@@ -7,166 +7,167 @@ use engine::{
 };
 use events::{Change, Event, Quote, QuoteGiven, State};
 use job::JobLength;
+use std::io::{Result, Write};
 use test_lines::print::{labelled, labelled_signed, list, text, trimmed, trimmed16, trimmed32};
 
-pub fn bad_case() {
-    text(b"bad case");
+pub fn bad_case<W: Write>(writer: &mut W) -> Result<()> {
+    text(writer, b"bad case")
 }
 
-pub fn refusal(r: Refusal) {
-    labelled(b"refused ", r.number as u64);
-    labelled(b" at ", r.place as u64);
+pub fn refusal<W: Write>(writer: &mut W, r: Refusal) -> Result<()> {
+    labelled(writer, b"refused ", r.number as u64)?;
+    labelled(writer, b" at ", r.place as u64)
 }
 
-pub fn checked(c: Checked) {
+pub fn checked<W: Write>(writer: &mut W, c: Checked) -> Result<()> {
     match c {
-        Checked::Accepted => text(b"accepted"),
-        Checked::Refused(r) => refusal(r),
+        Checked::Accepted => text(writer, b"accepted"),
+        Checked::Refused(r) => refusal(writer, r),
     }
 }
 
-pub fn member_count(c: MemberCount) {
+pub fn member_count<W: Write>(writer: &mut W, c: MemberCount) -> Result<()> {
     match c {
-        MemberCount::Members(n) => labelled(b"members ", n as u64),
-        MemberCount::Refused(r) => refusal(r),
+        MemberCount::Members(n) => labelled(writer, b"members ", n as u64),
+        MemberCount::Refused(r) => refusal(writer, r),
     }
 }
 
-pub fn needs_found(f: NeedsFound) {
+pub fn needs_found<W: Write>(writer: &mut W, f: NeedsFound) -> Result<()> {
     match f {
         NeedsFound::Needs { whole, members } => {
-            labelled(b"whole ", whole);
-            labelled(b" members ", members as u64);
+            labelled(writer, b"whole ", whole)?;
+            labelled(writer, b" members ", members as u64)
         }
-        NeedsFound::Refused(r) => refusal(r),
+        NeedsFound::Refused(r) => refusal(writer, r),
     }
 }
 
-pub fn cap_sums_found(f: CapSumsFound) {
+pub fn cap_sums_found<W: Write>(writer: &mut W, f: CapSumsFound) -> Result<()> {
     match f {
-        CapSumsFound::Total(n) => labelled(b"total ", n),
-        CapSumsFound::Refused(r) => refusal(r),
+        CapSumsFound::Total(n) => labelled(writer, b"total ", n),
+        CapSumsFound::Refused(r) => refusal(writer, r),
     }
 }
 
-pub fn group_cost(g: GroupCost) {
+pub fn group_cost<W: Write>(writer: &mut W, g: GroupCost) -> Result<()> {
     match g {
         GroupCost::Cost { size, cost } => {
-            labelled(b"size ", size as u64);
-            labelled(b" cost ", cost);
+            labelled(writer, b"size ", size as u64)?;
+            labelled(writer, b" cost ", cost)
         }
-        GroupCost::Refused(r) => refusal(r),
+        GroupCost::Refused(r) => refusal(writer, r),
     }
 }
 
-pub fn total_found(f: TotalFound) {
+pub fn total_found<W: Write>(writer: &mut W, f: TotalFound) -> Result<()> {
     match f {
-        TotalFound::Difference(difference) => labelled_signed(b"total ", difference),
-        TotalFound::Refused(r) => refusal(r),
+        TotalFound::Difference(difference) => labelled_signed(writer, b"total ", difference),
+        TotalFound::Refused(r) => refusal(writer, r),
     }
 }
 
-fn group_found(f: GroupFound) {
+fn group_found<W: Write>(writer: &mut W, f: GroupFound) -> Result<()> {
     match f {
         GroupFound::Group { amount, size } => {
-            labelled(b"group ", amount);
-            labelled(b" of ", size as u64);
+            labelled(writer, b"group ", amount)?;
+            labelled(writer, b" of ", size as u64)
         }
-        GroupFound::NoGroup => text(b"no group"),
-        GroupFound::Refused(r) => refusal(r),
+        GroupFound::NoGroup => text(writer, b"no group"),
+        GroupFound::Refused(r) => refusal(writer, r),
     }
 }
 
 // The words are printed with every answer: they are 0 except where a group is found.
-pub fn searched(s: Searched) {
+pub fn searched<W: Write>(writer: &mut W, s: Searched) -> Result<()> {
     let answer = s.answer;
     let group = s.group;
-    group_found(answer);
-    list(&group);
+    group_found(writer, answer)?;
+    list(writer, &group)
 }
 
-pub fn level_split(s: LevelSplit) {
+pub fn level_split<W: Write>(writer: &mut W, s: LevelSplit) -> Result<()> {
     match s {
-        LevelSplit::Split(n) => labelled(b"split ", n as u64),
+        LevelSplit::Split(n) => labelled(writer, b"split ", n as u64),
         LevelSplit::Refused {
             number,
             place,
             shortfall,
         } => {
-            refusal(Refusal { number, place });
-            labelled(b" short ", shortfall);
+            refusal(writer, Refusal { number, place })?;
+            labelled(writer, b" short ", shortfall)
         }
     }
 }
 
-pub fn margin_split(s: MarginSplit) {
+pub fn margin_split<W: Write>(writer: &mut W, s: MarginSplit) -> Result<()> {
     match s {
         MarginSplit::Split { margin, users } => {
-            labelled(b"margin ", margin);
-            labelled(b" users ", users as u64);
+            labelled(writer, b"margin ", margin)?;
+            labelled(writer, b" users ", users as u64)
         }
-        MarginSplit::Refused(r) => refusal(r),
+        MarginSplit::Refused(r) => refusal(writer, r),
     }
 }
 
-pub fn stepped(s: Stepped) {
+pub fn stepped<W: Write>(writer: &mut W, s: Stepped) -> Result<()> {
     match s {
-        Stepped::Next => text(b"next"),
-        Stepped::End => text(b"end"),
-        Stepped::Refused(r) => refusal(r),
+        Stepped::Next => text(writer, b"next"),
+        Stepped::End => text(writer, b"end"),
+        Stepped::Refused(r) => refusal(writer, r),
     }
 }
 
 // A length has the label before it.
-pub fn job_length(label: &[u8], j: JobLength) {
+pub fn job_length<W: Write>(writer: &mut W, label: &[u8], j: JobLength) -> Result<()> {
     match j {
-        JobLength::Length(n) => labelled(label, n as u64),
-        JobLength::Refused(r) => refusal(r),
+        JobLength::Length(n) => labelled(writer, label, n as u64),
+        JobLength::Refused(r) => refusal(writer, r),
     }
 }
 
 // An event, as it is read.
-fn event(e: Event) {
+fn event<W: Write>(writer: &mut W, e: Event) -> Result<()> {
     let vertex = e.vertex as u64;
     let change = e.change;
     match change {
-        Change::Arrive => labelled(b"+", vertex),
-        Change::Leave => labelled(b"-", vertex),
+        Change::Arrive => labelled(writer, b"+", vertex),
+        Change::Leave => labelled(writer, b"-", vertex),
         Change::NewCost(amount) => {
-            labelled(b"", vertex);
-            labelled(b"=", amount as u64);
+            labelled(writer, b"", vertex)?;
+            labelled(writer, b"=", amount as u64)
         }
     }
 }
 
-fn quoted(q: Quote) {
-    event(q.event);
-    labelled(b"@", q.committed as u64);
+fn quoted<W: Write>(writer: &mut W, q: Quote) -> Result<()> {
+    event(writer, q.event)?;
+    labelled(writer, b"@", q.committed as u64)
 }
 
-pub fn quote_given(g: QuoteGiven) {
+pub fn quote_given<W: Write>(writer: &mut W, g: QuoteGiven) -> Result<()> {
     match g {
         QuoteGiven::Quoted { members, quote } => {
-            labelled(b"members ", members as u64);
-            text(b" quote ");
-            quoted(quote);
+            labelled(writer, b"members ", members as u64)?;
+            text(writer, b" quote ")?;
+            quoted(writer, quote)
         }
-        QuoteGiven::Refused(r) => refusal(r),
+        QuoteGiven::Refused(r) => refusal(writer, r),
     }
 }
 
 // All of a state: the zeros at the end of a list are left out, so that every other entry is printed.
-pub fn state(s: State) {
+pub fn state<W: Write>(writer: &mut W, s: State) -> Result<()> {
     let parents = s.parents;
     let costs = s.costs;
     let marks = s.marks;
     let shares = s.shares;
-    labelled(b"arcs ", s.arcs as u64);
-    trimmed16(&parents);
-    trimmed32(&costs);
-    trimmed16(&marks);
-    trimmed(&shares);
-    labelled(b": ", s.committed as u64);
+    labelled(writer, b"arcs ", s.arcs as u64)?;
+    trimmed16(writer, &parents)?;
+    trimmed32(writer, &costs)?;
+    trimmed16(writer, &marks)?;
+    trimmed(writer, &shares)?;
+    labelled(writer, b": ", s.committed as u64)
 }
 
 // How many entries of a list are printed, where the first n are to be.
@@ -177,10 +178,10 @@ pub fn front(n: usize, length: usize) -> usize
 }
 
 // What is printed of the entries past the front: whether they are as before the call.
-pub fn others(kept: bool) {
+pub fn others<W: Write>(writer: &mut W, kept: bool) -> Result<()> {
     if kept {
-        text(b"; others kept");
+        text(writer, b"; others kept")
     } else {
-        text(b"; others changed");
+        text(writer, b"; others changed")
     }
 }

@@ -2,7 +2,7 @@
 // a comma between two, and "-" for no steps.
 use crate::event_text;
 use events::{Change, Event, Quote};
-use test_lines::{list, number};
+use test_lines::{list, number, scan};
 
 #[derive(Drop)]
 pub enum Step {
@@ -38,7 +38,7 @@ fn asking(s: &[u8]) -> StepRead {
 }
 
 fn committing(s: &[u8]) -> StepRead {
-    let end = bytes::scan::find(s, 0, s.len(), b'@');
+    let end = scan::find(s, 0, s.len(), b'@');
     if s.len() <= end {
         return unreadable();
     }
@@ -72,7 +72,7 @@ pub fn read(s: &[u8]) -> StepRead {
 pub fn all_readable(s: &[u8]) -> bool {
     let mut at = list::first_entry(s);
     while at <= s.len() {
-        let end = bytes::scan::find(s, at, s.len(), b',');
+        let end = scan::find(s, at, s.len(), b',');
         if !read(&s[at..end]).readable {
             return false;
         }

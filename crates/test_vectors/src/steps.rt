@@ -2,56 +2,57 @@
 use crate::step_text::Step;
 use crate::{print, step_text};
 use events::{Event, Quote, State};
-use test_lines::list;
+use std::io::{Result, Write};
 use test_lines::print::{text, trimmed};
+use test_lines::{list, scan};
 
 // The shares after an answer, which end what is printed of a step.
-fn print_shares(shares: &[u64]) {
-    trimmed(shares);
-    text(b"; ");
+fn print_shares<W: Write>(writer: &mut W, shares: &[u64]) -> Result<()> {
+    trimmed(writer, shares)?;
+    text(writer, b"; ")
 }
 
 // The answer is printed, and the shares beside it.
-fn ask(state: State, event: Event) {
+fn ask<W: Write>(writer: &mut W, state: State, event: Event) -> Result<()> {
     let asked = events::ask(state, event);
     let answer = asked.answer;
     let shares = asked.shares;
-    print::quote_given(answer);
-    print_shares(&shares);
+    print::quote_given(writer, answer)?;
+    print_shares(writer, &shares)
 }
 
 // The state after a commit; the answer is printed, and the shares after it.
-fn commit(state: State, quote: Quote) -> State {
+fn commit<W: Write>(writer: &mut W, state: State, quote: Quote) -> Result<State> {
     let done = events::commit(state, quote);
     let answer = done.answer;
     let after = done.state;
     let shares = after.shares;
-    print::member_count(answer);
-    print_shares(&shares);
-    after
+    print::member_count(writer, answer)?;
+    print_shares(writer, &shares)?;
+    Ok(after)
 }
 
 // The state after a step: asking leaves it as it is.
-fn state_after(state: State, s: &[u8]) -> State {
+fn state_after<W: Write>(writer: &mut W, state: State, s: &[u8]) -> Result<State> {
     let read = step_text::read(s);
     let step = read.step;
     match step {
         Step::Ask(event) => {
-            ask(state, event);
-            state
+            ask(writer, state, event)?;
+            Ok(state)
         }
-        Step::Commit(quote) => commit(state, quote),
+        Step::Commit(quote) => commit(writer, state, quote),
     }
 }
 
 // All of the state is printed after the last step.
-pub fn run(start: State, s: &[u8]) {
+pub fn run<W: Write>(writer: &mut W, start: State, s: &[u8]) -> Result<()> {
     let mut state = start;
     let mut at = list::first_entry(s);
     while at <= s.len() {
-        let end = bytes::scan::find(s, at, s.len(), b',');
-        state = state_after(state, &s[at..end]);
+        let end = scan::find(s, at, s.len(), b',');
+        state = state_after(writer, state, &s[at..end])?;
         at = end + 1;
     }
-    print::state(state);
+    print::state(writer, state)
 }
