@@ -4,7 +4,7 @@ ghost use Rattle.test_vectors.specs.Commands.{Named, field_count};
 
 use test_lines::field;
 
-#[derive(Drop)]
+#[derive(Clone, Copy)]
 pub enum Command {
     Check,
     Count,

@@ -16,12 +16,10 @@ fn digit(value: usize) -> u8
 fn run_each<W: Write>(writer: &mut W, line: &mut [u8], at: usize) -> Result<()>
     requires { at + 1 < length line.old }
 {
-    let mut byte = 0;
-    while byte < 256 {
+    for byte in 0..256 {
         line[at] = digit(byte / 16);
         line[at + 1] = digit(byte % 16);
         case::run(writer, line)?;
-        byte += 1;
     }
     Ok(())
 }
