@@ -1,0 +1,12 @@
+use mathlib.Core.Path.{◌∙◌}
+use native.Mathlib.Omega.{arith}
+use mir.Facts.{to_z-of_z}
+use Rattle.numbers.proofs.TwosComplement.{zero_told}
+use Rattle.buffer.proofs.Pieces.{put_then, put_none}
+use borrow.Author.Rules.{rules}
+use Rattle.report_lines.proofs.audit.put_difference.Goals as goal
+
+pub returns : goal.returns
+returns c =
+    let fits = c.ranges.difference in
+    let signed = rw (to_z-of_z fits) at c.put_labelled_signed-a.ensures.put in record {put = rw (zero_told fits c.is_zero.ensures ∙ c.if-is_zero.false) (put_then signed c.put.ensures); upper_bound = rw (zero_told fits c.is_zero.ensures ∙ c.if-is_zero.false) (omega arith); }

@@ -1,0 +1,9 @@
+use native.Mathlib.Omega.{arith}
+use Rattle.buffer.proofs.Pieces.{put_then}
+use borrow.Author.Rules.{rules}
+use Rattle.report_lines.proofs.line.put_refused.Goals as goal
+
+pub returns : goal.returns
+returns c =
+    let two = put_then c.put_labelled-a.ensures.put c.put_labelled-b.ensures.put in
+    record {put = put_then two c.put.ensures; upper_bound = omega arith; }
