@@ -35,7 +35,7 @@ fn put_member(
     let a = text::put_number(out, at, j as u64);
     let b = text::put_labelled(out, a, b" at ", vertex as u64);
     let c = text::put_labelled_signed(out, b, b": proposed ", proposed);
-    let d = text::put_labelled(out, c, b" by_arc_lem ", by_arc);
+    let d = text::put_labelled(out, c, b" by-arc ", by_arc);
     let e = put_share(out, d, level, share);
     buffer::put(out, e, b"\n")
 }

@@ -9,4 +9,6 @@ use Rattle.report_lines.proofs.audit.put_difference.Goals as goal
 pub returns : goal.returns
 returns c =
     let fits = c.ranges.difference in
-    let signed = rw (to_z-of_z fits) at c.put_labelled_signed-a.ensures.put in record {put = rw (zero_told fits c.is_zero.ensures ∙ c.if-is_zero.false) (put_then signed c.put.ensures); upper_bound = rw (zero_told fits c.is_zero.ensures ∙ c.if-is_zero.false) (omega arith); }
+    let off = zero_told fits c.is_zero.ensures ∙ c.if-is_zero.false in
+    let signed = rw (to_z-of_z fits) at c.put_labelled_signed-a.ensures.put in
+    record { put = rw off (put_then signed c.put.ensures); upper_bound = omega arith }
