@@ -1,0 +1,11 @@
+use Rattle.capi.specs.Structs.{encode_job_length, decode_job_length}
+use Rattle.capi.proofs.ReadBack.{stands_for}
+use Rattle.capi.proofs.JobBack.{to2_back}
+use borrow.Author.Rules.{rules}
+use Rattle.capi.proofs.job_write.zilqodur_job_to_2.Goals as goal
+
+pub returns : goal.returns
+returns c =
+    let written = c.job_to_2.ensures in
+    let r = stands_for encode_job_length decode_job_length c.encode.ensures written.result_value (to2_back _ _) in
+    record {result_value = r.0; value = r.1; out_after = written.out_after; }
