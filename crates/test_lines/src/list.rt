@@ -8,7 +8,7 @@ use crate::{number, scan, width};
 pub const MOST: usize = 1100;
 
 // How many entries a list has; 0 where it cannot be read.
-#[derive(Drop)]
+#[derive(Clone, Copy)]
 pub struct Entries {
     pub readable: bool,
     pub count: usize,

@@ -2,7 +2,7 @@
 ghost use Rattle.std.specs.Prelude.{◌≤◌};
 
 // A number; 0 where the bytes are none.
-#[derive(Drop)]
+#[derive(Clone, Copy)]
 pub struct Number {
     pub readable: bool,
     pub value: u64,

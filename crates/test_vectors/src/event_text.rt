@@ -4,7 +4,7 @@ use events::{Change, Event};
 use test_lines::{number, scan};
 
 // An event; one at vertex 0 where the bytes are none.
-#[derive(Drop)]
+#[derive(Clone, Copy)]
 pub struct EventRead {
     pub readable: bool,
     pub event: Event,

@@ -4,14 +4,14 @@ use crate::event_text;
 use events::{Change, Event, Quote};
 use test_lines::{list, number, scan};
 
-#[derive(Drop)]
+#[derive(Clone, Copy)]
 pub enum Step {
     Ask(Event),
     Commit(Quote),
 }
 
 // A step; asking at vertex 0 where the bytes are none.
-#[derive(Drop)]
+#[derive(Clone, Copy)]
 pub struct StepRead {
     pub readable: bool,
     pub step: Step,

@@ -14,18 +14,14 @@ const MOST_NOTE: usize = 300;
 
 // The answer, the job's bytes, and whether the others are as before the call.
 pub fn written<W: Write>(writer: &mut W, answer: JobLength, out: &[u8]) -> Result<()> {
-    let length = match &answer {
-        JobLength::Length(n) => Some(*n),
-        JobLength::Refused(_) => None,
-    };
     print::job_length(writer, b"written ", answer)?;
-    match length {
-        Some(n) => {
+    match answer {
+        JobLength::Length(n) => {
             let k = front(n, out.len());
             bytes(writer, &out[0..k])?;
             others(writer, rest::is8(out, n, 9))
         }
-        None => others(writer, rest::is8(out, 0, 9)),
+        JobLength::Refused(_) => others(writer, rest::is8(out, 0, 9)),
     }
 }
 
