@@ -13,7 +13,7 @@ use Rattle.dead_ends.proofs.write_dead_ends.Given as goal
 
 abbrev pub invariant-loop-i : goal.invariant-loop-i
 invariant-loop-i l =
-        (length l.parents ≤ most_arcs)
+    (length l.parents ≤ most_arcs)
     × (length l.initial.out ≡ length l.parents)
     × ((v : ℕ) → 1 ≤ v → v ≤ most_arcs → get_or l.has_child v false ≡ has_child l.parents v)
     × Filling (length l.parents) (λ u. pick (not (has_child l.parents (suc u))) 1) l.out l.i

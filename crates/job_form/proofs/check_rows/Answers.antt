@@ -13,12 +13,11 @@ returns-in_default c =
     c.check_filler-found.ensures c.in_default.is
 
 pub loop-i-preserved : goal.loop-i-preserved
-loop-i-preserved c =
-    (
-      omega arith,
-      rows_on _ _ _ _ _ c.loop-i.invariant.1 c.loop-i-test.true _
-          c.number_at.ensures.value c.check_filler-found.ensures c.in-Accepted.is,
-    )
+loop-i-preserved c = (
+  omega arith,
+  rows_on _ _ _ _ _ c.loop-i.invariant.1 c.loop-i-test.true _
+      c.number_at.ensures.value c.check_filler-found.ensures c.in-Accepted.is,
+)
 
 pub returns : goal.returns
 returns c = sym (rows_end _ _ _ _ _ c.loop-i.invariant.1 c.loop-i-test.false)

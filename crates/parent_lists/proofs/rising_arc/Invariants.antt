@@ -11,7 +11,7 @@ use Rattle.parent_lists.proofs.rising_arc.Given as goal
 
 abbrev pub invariant-loop-k : goal.invariant-loop-k
 invariant-loop-k l =
-        Sound l.parents
+    Sound l.parents
     × (l.k ≤ length l.parents)
     × ((j : ℕ) → l.k < j → j ≤ length l.parents → suc (of_arc l.parents j) ≡ j)
 

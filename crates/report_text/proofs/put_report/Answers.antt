@@ -12,8 +12,8 @@ slice_bounds-put_job-end c =
     let values : JobValue = record { arcs = c.in-Read.arcs; members = c.in-Read.members; note = c.in-Read.note } in
     let lists : Lent = let last = c.read-read.new in lent last.parents last.costs last.caps last.proposals in
     let job : Fronts c.args.bytes.now values lists = let read = c.read-read.ensures in
-        let is = sym (ap job_read_of c.in-Read.is) ∙ read.result_value in
-        fronts _ _ roomy {v = values} {after = lists} is read.proposals_after in
+    let is = sym (ap job_read_of c.in-Read.is) ∙ read.result_value in
+    fronts _ _ roomy {v = values} {after = lists} is read.proposals_after in
     omega (arith, job.parents.room)
 
 pub slice_bounds-put_job-end-in-Read-2 : goal.slice_bounds-put_job-end-in-Read-2
@@ -22,8 +22,8 @@ slice_bounds-put_job-end-in-Read-2 c =
     let values : JobValue = record { arcs = c.in-Read.arcs; members = c.in-Read.members; note = c.in-Read.note } in
     let lists : Lent = let last = c.read-read.new in lent last.parents last.costs last.caps last.proposals in
     let job : Fronts c.args.bytes.now values lists = let read = c.read-read.ensures in
-        let is = sym (ap job_read_of c.in-Read.is) ∙ read.result_value in
-        fronts _ _ roomy {v = values} {after = lists} is read.proposals_after in
+    let is = sym (ap job_read_of c.in-Read.is) ∙ read.result_value in
+    fronts _ _ roomy {v = values} {after = lists} is read.proposals_after in
     omega (arith, job.caps.room)
 
 pub put_job-requires : goal.put_job-requires
@@ -32,10 +32,10 @@ put_job-requires c =
     let values : JobValue = record { arcs = c.in-Read.arcs; members = c.in-Read.members; note = c.in-Read.note } in
     let lists : Lent = let last = c.read-read.new in lent last.parents last.costs last.caps last.proposals in
     let job : Fronts c.args.bytes.now values lists = let read = c.read-read.ensures in
-        let is = sym (ap job_read_of c.in-Read.is) ∙ read.result_value in
-        fronts _ _ roomy {v = values} {after = lists} is read.proposals_after in
+    let is = sym (ap job_read_of c.in-Read.is) ∙ read.result_value in
+    fronts _ _ roomy {v = values} {after = lists} is read.proposals_after in
     let f = job in
-    record {costs_value = front_tree_lem f; proposed_len = front_members f; in_bounds = omega (arith, c.requires.in_bounds); }
+    record { costs_value = front_tree_lem f; proposed_len = front_members f; in_bounds = omega (arith, c.requires.in_bounds) }
 
 pub returns-in-Read : goal.returns-in-Read
 returns-in-Read c =
@@ -43,8 +43,8 @@ returns-in-Read c =
     let values : JobValue = record { arcs = c.in-Read.arcs; members = c.in-Read.members; note = c.in-Read.note } in
     let lists : Lent = let last = c.read-read.new in lent last.parents last.costs last.caps last.proposals in
     let job : Fronts c.args.bytes.now values lists = let read = c.read-read.ensures in
-        let is = sym (ap job_read_of c.in-Read.is) ∙ read.result_value in
-        fronts _ _ roomy {v = values} {after = lists} is read.proposals_after in
+    let is = sym (ap job_read_of c.in-Read.is) ∙ read.result_value in
+    fronts _ _ roomy {v = values} {after = lists} is read.proposals_after in
     rw (← front_report job) c.put_job.ensures
 
 pub returns-in-Refused : goal.returns-in-Refused

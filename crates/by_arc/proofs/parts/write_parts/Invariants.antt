@@ -10,7 +10,7 @@ use Rattle.by_arc.proofs.parts.write_parts.Given as goal
 
 abbrev pub invariant-loop-i : goal.invariant-loop-i
 invariant-loop-i l =
-        Sound l.parents
+    Sound l.parents
     × Costed l.parents l.costs
     × Counts (length l.parents) l.initial.parts
     × (l.i ≤ length l.parents)

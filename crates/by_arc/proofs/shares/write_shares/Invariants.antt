@@ -11,7 +11,7 @@ use Rattle.by_arc.proofs.shares.write_shares.Given as goal
 
 abbrev pub invariant-loop-j : goal.invariant-loop-j
 invariant-loop-j l =
-        Placed l.vertices l.starts l.keys l.parts
+    Placed l.vertices l.starts l.keys l.parts
     × (l.base ≡ length l.vertices)
     × Filling (length l.vertices) (share_of l.vertices l.starts l.keys l.parts) l.shares l.j
 

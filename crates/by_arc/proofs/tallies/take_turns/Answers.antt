@@ -22,52 +22,52 @@ loop-k-init c =
 pub overflow_cast-users : goal.overflow_cast-users
 overflow_cast-users c =
     let few_members : length c.args.order.now ≤ most_arcs = let pre = c.requires in
-        omega (
-        arith,
-        pre.laid_out.order_sized,
-        count_le (length c.args.parents.now) (listed c.args.vertices.now),
-        pre.sound.few,
-        ) in
+    omega (
+      arith,
+      pre.laid_out.order_sized,
+      count_le (length c.args.parents.now) (listed c.args.vertices.now),
+      pre.sound.few,
+    ) in
     let part_fits : let args = c.args in let place = c.loop-k.k - 1 in get_or args.starts.now place 0 + get_or args.counts.now place 0 ≤ most_arcs = let at = c.loop-k in
-        omega (
-        arith,
-        part_within at.invariant.2 at.k (omega arith) at.invariant.4,
-        few_members,
-        ) in
+    omega (
+      arith,
+      part_within at.invariant.2 at.k (omega arith) at.invariant.4,
+      few_members,
+    ) in
     omega (arith, part_fits)
 
 pub overflow_add-from : goal.overflow_add-from
 overflow_add-from c =
     let few_members : length c.args.order.now ≤ most_arcs = let pre = c.requires in
-        omega (
-        arith,
-        pre.laid_out.order_sized,
-        count_le (length c.args.parents.now) (listed c.args.vertices.now),
-        pre.sound.few,
-        ) in
+    omega (
+      arith,
+      pre.laid_out.order_sized,
+      count_le (length c.args.parents.now) (listed c.args.vertices.now),
+      pre.sound.few,
+    ) in
     let part_fits : let args = c.args in let place = c.loop-k.k - 1 in get_or args.starts.now place 0 + get_or args.counts.now place 0 ≤ most_arcs = let at = c.loop-k in
-        omega (
-        arith,
-        part_within at.invariant.2 at.k (omega arith) at.invariant.4,
-        few_members,
-        ) in
+    omega (
+      arith,
+      part_within at.invariant.2 at.k (omega arith) at.invariant.4,
+      few_members,
+    ) in
     omega (arith, part_fits)
 
 pub offset_bounds-keys-from : goal.offset_bounds-keys-from
 offset_bounds-keys-from c =
     let few_members : length c.args.order.now ≤ most_arcs = let pre = c.requires in
-        omega (
-        arith,
-        pre.laid_out.order_sized,
-        count_le (length c.args.parents.now) (listed c.args.vertices.now),
-        pre.sound.few,
-        ) in
+    omega (
+      arith,
+      pre.laid_out.order_sized,
+      count_le (length c.args.parents.now) (listed c.args.vertices.now),
+      pre.sound.few,
+    ) in
     let part_fits : let args = c.args in let place = c.loop-k.k - 1 in get_or args.starts.now place 0 + get_or args.counts.now place 0 ≤ most_arcs = let at = c.loop-k in
-        omega (
-        arith,
-        part_within at.invariant.2 at.k (omega arith) at.invariant.4,
-        few_members,
-        ) in
+    omega (
+      arith,
+      part_within at.invariant.2 at.k (omega arith) at.invariant.4,
+      few_members,
+    ) in
     omega (arith, part_fits)
 
 pub slice_bounds-give_in_turn-end : goal.slice_bounds-give_in_turn-end
@@ -78,22 +78,26 @@ slice_bounds-give_in_turn-end c =
 pub give_in_turn-requires : goal.give_in_turn-requires
 give_in_turn-requires c =
     let few_members : length c.args.order.now ≤ most_arcs = let pre = c.requires in
-        omega (
-        arith,
-        pre.laid_out.order_sized,
-        count_le (length c.args.parents.now) (listed c.args.vertices.now),
-        pre.sound.few,
-        ) in
+    omega (
+      arith,
+      pre.laid_out.order_sized,
+      count_le (length c.args.parents.now) (listed c.args.vertices.now),
+      pre.sound.few,
+    ) in
     let start_is : let starts = c.args.starts.now in get_or starts (c.loop-k.k - 1) 0 ≡ of_arc starts c.loop-k.k = entry _ c.loop-k.k (omega arith) in
     let size_is : let args = c.args in let place = c.loop-k.k - 1 in let first = get_or args.starts.now place 0 in first + get_or args.counts.now place 0 - first ≡ of_arc args.counts.now c.loop-k.k = omega (arith, entry c.args.counts.now c.loop-k.k (omega arith)) in
     let at = c.loop-k in
     let low : 1 ≤ at.k = omega arith in
-    let few = few_members in record {keys = turned_keys _ at.invariant.2 at.k low at.invariant.4 at.invariant.5 _ _ (start_is) (size_is) few
-          at.invariant.0.few; base_le_most_arcs = few; more_in_bounds = omega (
-          arith,
-          turned_size _ at.invariant.2 at.k low at.invariant.4 at.invariant.5 _ _ (start_is) (size_is),
-          c.left_of-more.ensures.upper_bound,
-        ); }
+    let few = few_members in record {
+      keys = turned_keys _ at.invariant.2 at.k low at.invariant.4 at.invariant.5 _ _ (start_is) (size_is) few
+          at.invariant.0.few;
+      base_le_most_arcs = few;
+      more_in_bounds = omega (
+        arith,
+        turned_size _ at.invariant.2 at.k low at.invariant.4 at.invariant.5 _ _ (start_is) (size_is),
+        c.left_of-more.ensures.upper_bound,
+      );
+    }
 
 pub loop-k-preserved : goal.loop-k-preserved
 loop-k-preserved c =

@@ -14,7 +14,7 @@ use Rattle.by_arc.proofs.tallies.take_turns.Given as goal
 
 abbrev pub invariant-loop-k : goal.invariant-loop-k
 invariant-loop-k l =
-        Sound l.parents
+    Sound l.parents
     × (length l.costs ≡ length l.parents)
     × LaidOut (network_at l.parents l.costs l.vertices) l.starts l.counts l.order
     × (l.base ≡ length l.order)

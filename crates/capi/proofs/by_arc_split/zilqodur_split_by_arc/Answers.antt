@@ -7,4 +7,4 @@ pub returns : goal.returns
 returns c =
     let r = stands_for encode_members decode_members c.encode.ensures
     c.split_by_arc.ensures.result_value (by_arc_back _ _) in
-    record {result_value = r.0; value = r.1; out_after = c.split_by_arc.ensures.out_after; }
+    record { result_value = r.0; value = r.1; out_after = c.split_by_arc.ensures.out_after }

@@ -7,4 +7,4 @@ pub returns : goal.returns
 returns c =
     let r = stands_for encode_cap_sums decode_cap_sums c.encode.ensures
     c.list_cap_sums.ensures.result_value (cap_sums_back _ _ _) in
-    record {result_value = r.0; value = r.1; out_after = c.list_cap_sums.ensures.out_after; }
+    record { result_value = r.0; value = r.1; out_after = c.list_cap_sums.ensures.out_after }

@@ -8,4 +8,4 @@ pub returns : goal.returns
 returns c =
     let r = stands_for encode_job decode_job c.encode.ensures
     c.read.ensures.result_value (job_back _ _) in
-    record {result_value = r.0; value = r.1; proposals_after = c.read.ensures.proposals_after; }
+    record { result_value = r.0; value = r.1; proposals_after = c.read.ensures.proposals_after }

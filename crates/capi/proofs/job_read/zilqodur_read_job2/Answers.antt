@@ -8,4 +8,4 @@ pub returns : goal.returns
 returns c =
     let read = c.read.ensures in
     let r = stands_for encode_job decode_job c.encode.ensures read.result_value (job2_back _ _) in
-    record {result_value = r.0; value = r.1; floors_after = read.floors_after; }
+    record { result_value = r.0; value = r.1; floors_after = read.floors_after }

@@ -7,4 +7,4 @@ pub returns : goal.returns
 returns c =
     let r = stands_for encode_margin decode_margin c.encode.ensures
     c.split_margin.ensures.result_value (margin_back _ _ _) in
-    record {result_value = r.0; value = r.1; out_after = c.split_margin.ensures.out_after; }
+    record { result_value = r.0; value = r.1; out_after = c.split_margin.ensures.out_after }

@@ -7,4 +7,4 @@ pub returns : goal.returns
 returns c =
     let r = stands_for encode_needs decode_needs c.encode.ensures
     c.list_needs.ensures.result_value (needs_back _ _) in
-    record {result_value = r.0; value = r.1; out_after = c.list_needs.ensures.out_after; }
+    record { result_value = r.0; value = r.1; out_after = c.list_needs.ensures.out_after }

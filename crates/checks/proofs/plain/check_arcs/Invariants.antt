@@ -12,7 +12,7 @@ use Rattle.checks.proofs.plain.check_arcs.Given as goal
 
 abbrev pub invariant-loop-i : goal.invariant-loop-i
 invariant-loop-i l =
-        (l.i ≤ length l.parents)
+    (l.i ≤ length l.parents)
     × (length l.parents ≡ length l.costs)
     × (one_by_one (arc_check l.parents l.costs) l.i ≡ accepted)
 

@@ -24,10 +24,10 @@ loop-i-init c =
 pub returns-in_default : goal.returns-in_default
 returns-in_default c =
     let here : let args = c.args in check_of c.check_at-arc.result ≡ at_arc args.parents.now args.costs.now args.marks.now (suc c.loop-i.i) = let at = c.loop-i in
-        let args = c.args in
-        marked_here args.parents.now args.costs.now at.i args.marks.now _
-        (at.invariant.4 (at.i + 1) (omega arith) (omega (arith, at.invariant.1)))
-        c.check_at-arc.ensures in
+    let args = c.args in
+    marked_here args.parents.now args.costs.now at.i args.marks.now _
+    (at.invariant.4 (at.i + 1) (omega arith) (omega (arith, at.invariant.1)))
+    c.check_at-arc.ensures in
     let at = c.loop-i in
     step_refused _ at.i {k = at.i + 1} _ (omega arith) at.invariant.5 (here) c.in_default.is _
     (omega arith)
@@ -35,10 +35,10 @@ returns-in_default c =
 pub loop-i-preserved : goal.loop-i-preserved
 loop-i-preserved c =
     let here : let args = c.args in check_of c.check_at-arc.result ≡ at_arc args.parents.now args.costs.now args.marks.now (suc c.loop-i.i) = let at = c.loop-i in
-        let args = c.args in
-        marked_here args.parents.now args.costs.now at.i args.marks.now _
-        (at.invariant.4 (at.i + 1) (omega arith) (omega (arith, at.invariant.1)))
-        c.check_at-arc.ensures in
+    let args = c.args in
+    marked_here args.parents.now args.costs.now at.i args.marks.now _
+    (at.invariant.4 (at.i + 1) (omega arith) (omega (arith, at.invariant.1)))
+    c.check_at-arc.ensures in
     let at = c.loop-i in (
       omega arith,
       at.invariant.1,

@@ -19,7 +19,7 @@ at_arc parents costs marks k = arc_check parents costs k then mark_check parents
 
 abbrev pub invariant-loop-i : goal.invariant-loop-i
 invariant-loop-i l =
-        (l.i ≤ length l.parents)
+    (l.i ≤ length l.parents)
     × (length l.parents ≤ most_arcs)
     × (length l.parents ≡ length l.costs)
     × (length l.parents ≡ length l.marks)

@@ -33,7 +33,7 @@ overflow_mul-a c =
     let given : Classed = classed_of c.args.parents.now c.args.costs.now c.args.marks.now c.args.classes in
     let WithinLists : ℕ → Type 0 = Fits (given) c.requires.classes_value c.args.vertices.now c.args.out.now c.requires.vertices_value c.requires.out_len in
     let here : WithinLists c.loop-c.c = fits (given) c.requires.classes_value c.args.vertices.now c.args.out.now c.requires.vertices_value c.requires.out_len
-        c.loop-c.c c.loop-c-test.true in
+    c.loop-c.c c.loop-c-test.true in
     omega (arith, here)
 
 pub overflow_mul-j : goal.overflow_mul-j
@@ -41,7 +41,7 @@ overflow_mul-j c =
     let given : Classed = classed_of c.args.parents.now c.args.costs.now c.args.marks.now c.args.classes in
     let WithinLists : ℕ → Type 0 = Fits (given) c.requires.classes_value c.args.vertices.now c.args.out.now c.requires.vertices_value c.requires.out_len in
     let here : WithinLists c.loop-c.c = fits (given) c.requires.classes_value c.args.vertices.now c.args.out.now c.requires.vertices_value c.requires.out_len
-        c.loop-c.c c.loop-c-test.true in
+    c.loop-c.c c.loop-c-test.true in
     omega (arith, here)
 
 pub overflow_add-a : goal.overflow_add-a
@@ -49,7 +49,7 @@ overflow_add-a c =
     let given : Classed = classed_of c.args.parents.now c.args.costs.now c.args.marks.now c.args.classes in
     let WithinLists : ℕ → Type 0 = Fits (given) c.requires.classes_value c.args.vertices.now c.args.out.now c.requires.vertices_value c.requires.out_len in
     let here : WithinLists c.loop-c.c = fits (given) c.requires.classes_value c.args.vertices.now c.args.out.now c.requires.vertices_value c.requires.out_len
-        c.loop-c.c c.loop-c-test.true in
+    c.loop-c.c c.loop-c-test.true in
     omega (arith, here)
 
 pub offset_bounds-costs-a : goal.offset_bounds-costs-a
@@ -57,7 +57,7 @@ offset_bounds-costs-a c =
     let given : Classed = classed_of c.args.parents.now c.args.costs.now c.args.marks.now c.args.classes in
     let WithinLists : ℕ → Type 0 = Fits (given) c.requires.classes_value c.args.vertices.now c.args.out.now c.requires.vertices_value c.requires.out_len in
     let here : WithinLists c.loop-c.c = fits (given) c.requires.classes_value c.args.vertices.now c.args.out.now c.requires.vertices_value c.requires.out_len
-        c.loop-c.c c.loop-c-test.true in
+    c.loop-c.c c.loop-c-test.true in
     omega (arith, here)
 
 pub slice_bounds-split_class-end : goal.slice_bounds-split_class-end
@@ -65,7 +65,7 @@ slice_bounds-split_class-end c =
     let given : Classed = classed_of c.args.parents.now c.args.costs.now c.args.marks.now c.args.classes in
     let WithinLists : ℕ → Type 0 = Fits (given) c.requires.classes_value c.args.vertices.now c.args.out.now c.requires.vertices_value c.requires.out_len in
     let here : WithinLists c.loop-c.c = fits (given) c.requires.classes_value c.args.vertices.now c.args.out.now c.requires.vertices_value c.requires.out_len
-        c.loop-c.c c.loop-c-test.true in
+    c.loop-c.c c.loop-c-test.true in
     omega (arith, here)
 
 pub overflow_add-j : goal.overflow_add-j
@@ -73,7 +73,7 @@ overflow_add-j c =
     let given : Classed = classed_of c.args.parents.now c.args.costs.now c.args.marks.now c.args.classes in
     let WithinLists : ℕ → Type 0 = Fits (given) c.requires.classes_value c.args.vertices.now c.args.out.now c.requires.vertices_value c.requires.out_len in
     let here : WithinLists c.loop-c.c = fits (given) c.requires.classes_value c.args.vertices.now c.args.out.now c.requires.vertices_value c.requires.out_len
-        c.loop-c.c c.loop-c-test.true in
+    c.loop-c.c c.loop-c-test.true in
     omega (arith, here, c.loop-c.invariant.1)
 
 pub offset_bounds-out-j : goal.offset_bounds-out-j
@@ -81,7 +81,7 @@ offset_bounds-out-j c =
     let given : Classed = classed_of c.args.parents.now c.args.costs.now c.args.marks.now c.args.classes in
     let WithinLists : ℕ → Type 0 = Fits (given) c.requires.classes_value c.args.vertices.now c.args.out.now c.requires.vertices_value c.requires.out_len in
     let here : WithinLists c.loop-c.c = fits (given) c.requires.classes_value c.args.vertices.now c.args.out.now c.requires.vertices_value c.requires.out_len
-        c.loop-c.c c.loop-c-test.true in
+    c.loop-c.c c.loop-c-test.true in
     omega (arith, here, c.loop-c.invariant.1)
 
 pub slice_bounds-split_class-end-in-loop-c : goal.slice_bounds-split_class-end-in-loop-c
@@ -89,7 +89,7 @@ slice_bounds-split_class-end-in-loop-c c =
     let given : Classed = classed_of c.args.parents.now c.args.costs.now c.args.marks.now c.args.classes in
     let WithinLists : ℕ → Type 0 = Fits (given) c.requires.classes_value c.args.vertices.now c.args.out.now c.requires.vertices_value c.requires.out_len in
     let here : WithinLists c.loop-c.c = fits (given) c.requires.classes_value c.args.vertices.now c.args.out.now c.requires.vertices_value c.requires.out_len
-        c.loop-c.c c.loop-c-test.true in
+    c.loop-c.c c.loop-c-test.true in
     omega (arith, here, c.loop-c.invariant.1)
 
 pub split_class-class-requires : goal.split_class-class-requires
@@ -99,17 +99,21 @@ split_class-class-requires c =
     let w = given in
     let out = c.args.out.now in
     let vs = c.args.vertices.now in
-    let h = c.loop-c-test.true in record {marks_value = rw (as_taken (length w.parents) at.c w.costs) (class_accepted w c.requires.classes_value at.c h); vertices_value = c.requires.vertices_value; out_len = ap length (as_taken (length vs) at.c at.out)
-            ∙ part_length (length vs) w.classes at.c at.out
-            (at.invariant.1 ∙ all_shares w c.requires.classes_value vs out c.requires.vertices_value c.requires.out_len) h
-            ∙ one_a_member w c.requires.classes_value vs out c.requires.vertices_value c.requires.out_len; }
+    let h = c.loop-c-test.true in record {
+      marks_value = rw (as_taken (length w.parents) at.c w.costs) (class_accepted w c.requires.classes_value at.c h);
+      vertices_value = c.requires.vertices_value;
+      out_len = ap length (as_taken (length vs) at.c at.out)
+          ∙ part_length (length vs) w.classes at.c at.out
+          (at.invariant.1 ∙ all_shares w c.requires.classes_value vs out c.requires.vertices_value c.requires.out_len) h
+          ∙ one_a_member w c.requires.classes_value vs out c.requires.vertices_value c.requires.out_len;
+    }
 
 pub offset_bounds-totals-c : goal.offset_bounds-totals-c
 offset_bounds-totals-c c =
     let given : Classed = classed_of c.args.parents.now c.args.costs.now c.args.marks.now c.args.classes in
     let WithinLists : ℕ → Type 0 = Fits (given) c.requires.classes_value c.args.vertices.now c.args.out.now c.requires.vertices_value c.requires.out_len in
     let here : WithinLists c.loop-c.c = fits (given) c.requires.classes_value c.args.vertices.now c.args.out.now c.requires.vertices_value c.requires.out_len
-        c.loop-c.c c.loop-c-test.true in
+    c.loop-c.c c.loop-c-test.true in
     omega (arith, here)
 
 pub bounds-totals-c : goal.bounds-totals-c
@@ -117,7 +121,7 @@ bounds-totals-c c =
     let given : Classed = classed_of c.args.parents.now c.args.costs.now c.args.marks.now c.args.classes in
     let WithinLists : ℕ → Type 0 = Fits (given) c.requires.classes_value c.args.vertices.now c.args.out.now c.requires.vertices_value c.requires.out_len in
     let here : WithinLists c.loop-c.c = fits (given) c.requires.classes_value c.args.vertices.now c.args.out.now c.requires.vertices_value c.requires.out_len
-        c.loop-c.c c.loop-c-test.true in
+    c.loop-c.c c.loop-c-test.true in
     omega (arith, here)
 
 pub overflow_add-totals : goal.overflow_add-totals
@@ -125,7 +129,7 @@ overflow_add-totals c =
     let given : Classed = classed_of c.args.parents.now c.args.costs.now c.args.marks.now c.args.classes in
     let WithinLists : ℕ → Type 0 = Fits (given) c.requires.classes_value c.args.vertices.now c.args.out.now c.requires.vertices_value c.requires.out_len in
     let here : WithinLists c.loop-c.c = fits (given) c.requires.classes_value c.args.vertices.now c.args.out.now c.requires.vertices_value c.requires.out_len
-        c.loop-c.c c.loop-c-test.true in
+    c.loop-c.c c.loop-c-test.true in
     omega (arith, here)
 
 pub offset_bounds-totals-c-in-loop-c : goal.offset_bounds-totals-c-in-loop-c
@@ -133,7 +137,7 @@ offset_bounds-totals-c-in-loop-c c =
     let given : Classed = classed_of c.args.parents.now c.args.costs.now c.args.marks.now c.args.classes in
     let WithinLists : ℕ → Type 0 = Fits (given) c.requires.classes_value c.args.vertices.now c.args.out.now c.requires.vertices_value c.requires.out_len in
     let here : WithinLists c.loop-c.c = fits (given) c.requires.classes_value c.args.vertices.now c.args.out.now c.requires.vertices_value c.requires.out_len
-        c.loop-c.c c.loop-c-test.true in
+    c.loop-c.c c.loop-c-test.true in
     omega (arith, here)
 
 pub bounds-totals-c-in-loop-c : goal.bounds-totals-c-in-loop-c
@@ -141,7 +145,7 @@ bounds-totals-c-in-loop-c c =
     let given : Classed = classed_of c.args.parents.now c.args.costs.now c.args.marks.now c.args.classes in
     let WithinLists : ℕ → Type 0 = Fits (given) c.requires.classes_value c.args.vertices.now c.args.out.now c.requires.vertices_value c.requires.out_len in
     let here : WithinLists c.loop-c.c = fits (given) c.requires.classes_value c.args.vertices.now c.args.out.now c.requires.vertices_value c.requires.out_len
-        c.loop-c.c c.loop-c-test.true in
+    c.loop-c.c c.loop-c-test.true in
     omega (arith, here)
 
 pub loop-c-preserved : goal.loop-c-preserved
@@ -149,7 +153,7 @@ loop-c-preserved c =
     let given : Classed = classed_of c.args.parents.now c.args.costs.now c.args.marks.now c.args.classes in
     let WithinLists : ℕ → Type 0 = Fits (given) c.requires.classes_value c.args.vertices.now c.args.out.now c.requires.vertices_value c.requires.out_len in
     let here : WithinLists c.loop-c.c = fits (given) c.requires.classes_value c.args.vertices.now c.args.out.now c.requires.vertices_value c.requires.out_len
-        c.loop-c.c c.loop-c-test.true in
+    c.loop-c.c c.loop-c-test.true in
     let at = c.loop-c in
     let w = given in
     let vs = c.args.vertices.now in
@@ -175,6 +179,9 @@ returns c =
     let at = c.loop-c in
     let vs = c.args.vertices.now in
     let end : at.c ≡ w.classes = omega arith in
-    let long = at.invariant.1 ∙ all_shares w c.requires.classes_value vs c.args.out.now c.requires.vertices_value c.requires.out_len in record {result_value = at.invariant.3 ∙ ap (totals_to (paid_in w) (cost_in w)) end; out_after = sym (take_all (at.c * length vs) at.out (omega (arith, long, ap (λ (k : ℕ). k * length vs) end)))
+    let long = at.invariant.1 ∙ all_shares w c.requires.classes_value vs c.args.out.now c.requires.vertices_value c.requires.out_len in record {
+      result_value = at.invariant.3 ∙ ap (totals_to (paid_in w) (cost_in w)) end;
+      out_after = sym (take_all (at.c * length vs) at.out (omega (arith, long, ap (λ (k : ℕ). k * length vs) end)))
           ∙ at.invariant.2
-          ∙ ap (λ (k : ℕ). joined k (class_shares w)) end; }
+          ∙ ap (λ (k : ℕ). joined k (class_shares w)) end;
+    }

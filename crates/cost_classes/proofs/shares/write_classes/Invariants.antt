@@ -22,7 +22,7 @@ use Rattle.cost_classes.proofs.shares.write_classes.Given as goal
 
 abbrev pub invariant-loop-c : goal.invariant-loop-c
 invariant-loop-c l =
-        let w = classed_of l.parents l.costs l.marks l.classes in
+    let w = classed_of l.parents l.costs l.marks l.classes in
     (l.c ≤ l.classes)
     × (length l.out ≡ length l.initial.out)
     × (take (l.c * length l.vertices) l.out ≡ joined l.c (class_shares w))

@@ -30,13 +30,13 @@ unfolding cap_sums_answer cap_sums_list
 returns-in_default c =
     let away = turned_away c.check_tree-tree.ensures c.in_default.is
     c.refusal_of.ensures in
-    record {result_value = rw away; out_after = rw away; }
+    record { result_value = rw away; out_after = rw away }
 
 pub list_in_tree-requires : goal.list_in_tree-requires
 list_in_tree-requires c =
     let tree : Tree = tree_of c.args.parents.now c.args.costs.now c.args.marks.now in
     let accepted_tree : tree_check (tree) ≡ accepted = opened c.check_tree-tree.ensures c.in-Accepted.is in
-    let ok = accepted_tree in record {sound = accepted_sound _ ok; marked = accepted_marked _ ok; }
+    let ok = accepted_tree in record { sound = accepted_sound _ ok; marked = accepted_marked _ ok }
 
 pub returns : goal.returns
 unfolding cap_sums_answer cap_sums_list
@@ -46,4 +46,4 @@ returns c =
     let ok = accepted_tree in
     let inner = c.list_in_tree.ensures in
     let same = sums_running (tree) ok c.args.caps.now in
-    record {result_value = rw ok inner.result_value; out_after = rw (ok, ← same) inner.out_after; }
+    record { result_value = rw ok inner.result_value; out_after = rw (ok, ← same) inner.out_after }

@@ -18,29 +18,29 @@ returns-in_default c =
 pub slice_bounds-counted-end : goal.slice_bounds-counted-end
 slice_bounds-counted-end c =
     let tree : Tree = let given = c.args in
-        tree_of given.parents.now given.costs.now given.marks.now in
+    tree_of given.parents.now given.costs.now given.marks.now in
     let accepted_tree : tree_check (tree) ≡ accepted = opened c.check_tree-tree.ensures c.in-Accepted.is in
     (accepted_sound (tree) (accepted_tree)).few
 
 pub write_counted-requires : goal.write_counted-requires
 write_counted-requires c =
     let tree : Tree = let given = c.args in
-        tree_of given.parents.now given.costs.now given.marks.now in
+    tree_of given.parents.now given.costs.now given.marks.now in
     let accepted_tree : tree_check (tree) ≡ accepted = opened c.check_tree-tree.ensures c.in-Accepted.is in
-    let it = counted_lent _ (accepted_tree) in record {sound = it.0; costed = it.1.0; marked = it.1.1.0; out_len = it.1.1.1; }
+    let it = counted_lent _ (accepted_tree) in record { sound = it.0; costed = it.1.0; marked = it.1.1.0; out_len = it.1.1.1 }
 
 pub cost_in_tree-requires : goal.cost_in_tree-requires
 cost_in_tree-requires c =
     let tree : Tree = let given = c.args in
-        tree_of given.parents.now given.costs.now given.marks.now in
+    tree_of given.parents.now given.costs.now given.marks.now in
     let accepted_tree : tree_check (tree) ≡ accepted = opened c.check_tree-tree.ensures c.in-Accepted.is in
-    let it = accepted_lists _ (accepted_tree) c.write_counted.ensures _ in record {sound = it.0; costed = it.1.0; marked = it.1.1; }
+    let it = accepted_lists _ (accepted_tree) c.write_counted.ensures _ in record { sound = it.0; costed = it.1.0; marked = it.1.1 }
 
 pub returns : goal.returns
 unfolding group_cost_answer
 returns c =
     let tree : Tree = let given = c.args in
-        tree_of given.parents.now given.costs.now given.marks.now in
+    tree_of given.parents.now given.costs.now given.marks.now in
     let accepted_tree : tree_check (tree) ≡ accepted = opened c.check_tree-tree.ensures c.in-Accepted.is in
     let part = counted_part (tree) c.write_counted.ensures in
     rw (accepted_tree) (rw part at c.cost_in_tree.ensures)

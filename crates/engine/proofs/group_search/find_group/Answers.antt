@@ -30,7 +30,7 @@ returns-in_default c =
     let away = turned_away c.check_proposed-checked.ensures c.in_default.is
     c.refusal_of.ensures in
     let given = c.without_group.ensures in
-    record {answer_value = rw (given.answer_value, away); group_value = rw away given.group_value; }
+    record { answer_value = rw (given.answer_value, away); group_value = rw away given.group_value }
 
 pub slice_bounds-counted-end : goal.slice_bounds-counted-end
 slice_bounds-counted-end c =
@@ -46,7 +46,7 @@ write_counted-requires c =
     let shares : List ℤ = c.args.proposal.now in
     let ok : audit_check (tree) (shares) ≡ accepted = opened c.check_proposed-checked.ensures c.in-Accepted.is in
     let tree_ok : tree_check (tree) ≡ accepted = tree_taken (tree) (shares) (ok) in
-    let it = counted_lent _ (tree_ok) in record {sound = it.0; costed = it.1.0; marked = it.1.1.0; out_len = it.1.1.1; }
+    let it = counted_lent _ (tree_ok) in record { sound = it.0; costed = it.1.0; marked = it.1.1.0; out_len = it.1.1.1 }
 
 pub search_in_tree-requires : goal.search_in_tree-requires
 search_in_tree-requires c =
@@ -55,7 +55,7 @@ search_in_tree-requires c =
     let ok : audit_check (tree) (shares) ≡ accepted = opened c.check_proposed-checked.ensures c.in-Accepted.is in
     let tree_ok : tree_check (tree) ≡ accepted = tree_taken (tree) (shares) (ok) in
     let lists = accepted_lists _ (tree_ok) c.write_counted.ensures _ in
-    record {sound = lists.0; costed = lists.1.0; marked = lists.1.1; proposal_value = shares_taken (tree) (shares) (ok); }
+    record { sound = lists.0; costed = lists.1.0; marked = lists.1.1; proposal_value = shares_taken (tree) (shares) (ok) }
 
 pub returns : goal.returns
 returns c =
@@ -64,4 +64,4 @@ returns c =
     let ok : audit_check (tree) (shares) ≡ accepted = opened c.check_proposed-checked.ensures c.in-Accepted.is in
     let part = counted_part (tree) c.write_counted.ensures in
     let inner = c.search_in_tree.ensures in
-    let it = answered (tree) (shares) (ok) (rw part at inner.answer_value) (rw part at inner.group_value) in record {answer_value = it.0; group_value = it.1; }
+    let it = answered (tree) (shares) (ok) (rw part at inner.answer_value) (rw part at inner.group_value) in record { answer_value = it.0; group_value = it.1 }

@@ -22,7 +22,7 @@ write_level-stop-requires c =
     let rest = pre in
     let listing = written_listed _ _ pre.marked c.write_members.ensures in
     let places = rest.out_len ∙ sym (one_a_member) in
-    record {sound = pre.sound; costed = pre.costed; listed = listing; capped = limited _ rest.caps_value; capped_2 = limited _ rest.floors_value; shares_len = places; }
+    record { sound = pre.sound; costed = pre.costed; listed = listing; capped = limited _ rest.caps_value; capped_2 = limited _ rest.floors_value; shares_len = places }
 
 pub returns : goal.returns
 returns c =
@@ -35,9 +35,12 @@ returns c =
     let out = c.args.out.now in
     let stop = c.write_level-stop.result in
     let found = c.write_level-stop.ensures in
-    let answered = c.answer.ensures ∙ ap (λ (m : ℕ). answer_of m stop) (one_a_member) in record {result_value = answered
+    let answered = c.answer.ensures ∙ ap (λ (m : ℕ). answer_of m stop) (one_a_member) in record {
+      result_value = answered
           ∙ subst (λ (n : Network). answer_of (member_count n) stop ≡ split_from n caps floors n.arcs)
-          (same_net) found.result_value; out_after = found.shares_after
+          (same_net) found.result_value;
+      out_after = found.shares_after
           ∙ ap (λ (n : Network). list_after (answer_of (member_count n) stop) out (level_shares n caps floors))
           (same_net)
-          ∙ ap (λ (a : LevelAnswer). list_after a out (level_shares (net) caps floors)) (sym answered); }
+          ∙ ap (λ (a : LevelAnswer). list_after a out (level_shares (net) caps floors)) (sym answered);
+    }

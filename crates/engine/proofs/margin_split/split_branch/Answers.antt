@@ -35,4 +35,4 @@ split_accepted-requires c =
     let lists = sound_lists (tree) c.requires.sound c.requires.costed c.requires.marked are _ in
     let whole = subst (BranchedAt) (sym (counted_part (tree) are _)) c.requires.branched in
     let two = ltb-false (members) 2 (no_fault (ltb (members) 2) 26 c.args.arc (several_accepted)) in
-    let places = length_accepted _ _ (output_accepted) in record {sound = lists.0; costed = lists.1.0; marked = lists.1.1; branched = whole; bound = omega (arith, two); users_value = counted; out_len = places; }
+    let places = length_accepted _ _ (output_accepted) in record { sound = lists.0; costed = lists.1.0; marked = lists.1.1; branched = whole; bound = omega (arith, two); users_value = counted; out_len = places }

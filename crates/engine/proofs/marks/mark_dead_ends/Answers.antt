@@ -20,7 +20,7 @@ unfolding dead_ends_answer dead_ends_list
 returns-in_default c =
     let away = turned_away c.check_plain-lists.ensures c.in_default.is
     c.refusal_of.ensures in
-    record {result_value = rw away; out_after = rw away; }
+    record { result_value = rw away; out_after = rw away }
 
 pub returns-in_default-output : goal.returns-in_default-output
 unfolding dead_ends_answer dead_ends_list
@@ -29,12 +29,12 @@ returns-in_default-output c =
     let lists = accepted_lists in
     let away = turned_away c.check_output-output.ensures c.in_default-output.is
     c.refusal_of-in_default-output.ensures in
-    record {result_value = rw (lists, away); out_after = rw (lists, away); }
+    record { result_value = rw (lists, away); out_after = rw (lists, away) }
 
 pub write_dead_ends-requires : goal.write_dead_ends-requires
 write_dead_ends-requires c =
     let accepted_lists : plain_check c.args.parents.now c.args.costs.now ≡ accepted = opened c.check_plain-lists.ensures c.in-Accepted.is in
-    let lists = accepted_lists in record {parents_len_bound = plain_few _ _ lists; out_len = length_accepted _ _ (opened c.check_output-output.ensures c.in-Accepted-output.is); }
+    let lists = accepted_lists in record { parents_len_bound = plain_few _ _ lists; out_len = length_accepted _ _ (opened c.check_output-output.ensures c.in-Accepted-output.is) }
 
 pub returns : goal.returns
 unfolding dead_ends_answer dead_ends_list
@@ -43,7 +43,10 @@ returns c =
     let lists = accepted_lists in
     let out = opened c.check_output-output.ensures c.in-Accepted-output.is in
     let ends = c.write_dead_ends.ensures in
-    let parents = c.args.parents.now in record {result_value = rw (lists, out)
+    let parents = c.args.parents.now in record {
+      result_value = rw (lists, out)
           (ap value
           (c.count_members.ensures ∙ ap (λ (l : List ℕ). count (length l) (marked l)) ends
-          ∙ ap (λ (k : ℕ). count k (marked (dead_ends parents))) (dead_ends_length parents))); out_after = rw (lists, out) ends; }
+          ∙ ap (λ (k : ℕ). count k (marked (dead_ends parents))) (dead_ends_length parents)));
+      out_after = rw (lists, out) ends;
+    }

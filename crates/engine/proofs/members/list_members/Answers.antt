@@ -20,7 +20,7 @@ unfolding members_answer members_list
 returns-in_default c =
     let away = turned_away c.check_tree-tree.ensures c.in_default.is
     c.refusal_of.ensures in
-    record {result_value = rw away; out_after = rw away; }
+    record { result_value = rw away; out_after = rw away }
 
 pub returns-in_default-output : goal.returns-in_default-output
 unfolding members_answer members_list
@@ -30,11 +30,11 @@ returns-in_default-output c =
     let net : Network = network (tree) in
     let counted : c.count_members-n.result ≡ member_count (net) = c.count_members-n.ensures ∙ accepted_count _ (accepted_tree) in
     let output : check_of c.check_output-output.result ≡ length_check (member_count (net)) (length c.args.out.now) = c.check_output-output.ensures
-        ∙ ap (λ (n : ℕ). length_check n (length c.args.out.now)) (counted) in
+    ∙ ap (λ (n : ℕ). length_check n (length c.args.out.now)) (counted) in
     let tree = accepted_tree in
     let away = turned_away (output) c.in_default-output.is
     c.refusal_of-in_default-output.ensures in
-    record {result_value = rw (tree, away); out_after = rw (tree, away); }
+    record { result_value = rw (tree, away); out_after = rw (tree, away) }
 
 pub write_members-requires : goal.write_members-requires
 write_members-requires c =
@@ -43,9 +43,9 @@ write_members-requires c =
     let net : Network = network (tree) in
     let counted : c.count_members-n.result ≡ member_count (net) = c.count_members-n.ensures ∙ accepted_count _ (accepted_tree) in
     let output : check_of c.check_output-output.result ≡ length_check (member_count (net)) (length c.args.out.now) = c.check_output-output.ensures
-        ∙ ap (λ (n : ℕ). length_check n (length c.args.out.now)) (counted) in
+    ∙ ap (λ (n : ℕ). length_check n (length c.args.out.now)) (counted) in
     let accepted_output : length_check (member_count (net)) (length c.args.out.now) ≡ accepted = opened (output) c.in-Accepted-output.is in
-    let ok = accepted_tree in record {marks_len_bound = omega (arith, (accepted_marked _ ok).sized, (accepted_sound _ ok).few); out_len = length_accepted _ _ (accepted_output) ∙ sym (accepted_count _ ok); }
+    let ok = accepted_tree in record { marks_len_bound = omega (arith, (accepted_marked _ ok).sized, (accepted_sound _ ok).few); out_len = length_accepted _ _ (accepted_output) ∙ sym (accepted_count _ ok) }
 
 pub returns : goal.returns
 unfolding members_answer members_list
@@ -55,8 +55,11 @@ returns c =
     let net : Network = network (tree) in
     let counted : c.count_members-n.result ≡ member_count (net) = c.count_members-n.ensures ∙ accepted_count _ (accepted_tree) in
     let output : check_of c.check_output-output.result ≡ length_check (member_count (net)) (length c.args.out.now) = c.check_output-output.ensures
-        ∙ ap (λ (n : ℕ). length_check n (length c.args.out.now)) (counted) in
+    ∙ ap (λ (n : ℕ). length_check n (length c.args.out.now)) (counted) in
     let accepted_output : length_check (member_count (net)) (length c.args.out.now) ≡ accepted = opened (output) c.in-Accepted-output.is in
     let tree = accepted_tree in
-    let list = accepted_output in record {result_value = rw (tree, list, counted); out_after = rw (tree, list) (c.write_members.ensures
-          ∙ ap (members_to _) (accepted_marked _ tree).sized); }
+    let list = accepted_output in record {
+      result_value = rw (tree, list, counted);
+      out_after = rw (tree, list) (c.write_members.ensures
+          ∙ ap (members_to _) (accepted_marked _ tree).sized);
+    }

@@ -24,7 +24,7 @@ unfolding step_answer step_list
 returns-in_default c =
     let away = turned_away c.check_small-list.ensures c.in_default.is
     c.refusal_of.ensures in
-    record {result_value = rw away; parents_after = rw away; }
+    record { result_value = rw away; parents_after = rw away }
 
 pub step-requires : goal.step-requires
 step-requires c =
@@ -38,7 +38,7 @@ returns-then-step c =
     let accepted_list : small_check c.args.parents.now ≡ accepted = opened c.check_small-list.ensures c.in-Accepted.is in
     let ok = accepted_list in
     let is-next = sym (ap (λ (b : Bool). cond b next end) c.if-step.true) ∙ said _ c.step.ensures.value in
-    record {result_value = rw ok (ap value is-next); parents_after = rw ok c.step.ensures.parents_after; }
+    record { result_value = rw ok (ap value is-next); parents_after = rw ok c.step.ensures.parents_after }
 
 pub returns-else-step : goal.returns-else-step
 unfolding step_answer step_list
@@ -46,4 +46,4 @@ returns-else-step c =
     let accepted_list : small_check c.args.parents.now ≡ accepted = opened c.check_small-list.ensures c.in-Accepted.is in
     let ok = accepted_list in
     let is-end = sym (ap (λ (b : Bool). cond b next end) c.if-step.false) ∙ said _ c.step.ensures.value in
-    record {result_value = rw ok (ap value is-end); parents_after = rw ok c.step.ensures.parents_after; }
+    record { result_value = rw ok (ap value is-end); parents_after = rw ok c.step.ensures.parents_after }

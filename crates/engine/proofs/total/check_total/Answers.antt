@@ -42,14 +42,14 @@ write_counted-requires c =
     let shares : List ℤ = c.args.proposal.now in
     let ok : audit_check (tree) (shares) ≡ accepted = opened c.check_proposed-checked.ensures c.in-Accepted.is in
     let tree_ok : tree_check (tree) ≡ accepted = tree_taken (tree) (shares) (ok) in
-    let it = counted_lent _ (tree_ok) in record {sound = it.0; costed = it.1.0; marked = it.1.1.0; out_len = it.1.1.1; }
+    let it = counted_lent _ (tree_ok) in record { sound = it.0; costed = it.1.0; marked = it.1.1.0; out_len = it.1.1.1 }
 
 pub parts_of-parts-requires : goal.parts_of-parts-requires
 parts_of-parts-requires c =
     let tree : Tree = let s = c.args in tree_of s.parents.now s.costs.now s.marks.now in
     let shares : List ℤ = c.args.proposal.now in
     let ok : audit_check (tree) (shares) ≡ accepted = opened c.check_proposed-checked.ensures c.in-Accepted.is in
-    let it = shares_lent (tree) (shares) (ok) in record {proposal_value = it.0; proposal_len_bound = it.1; }
+    let it = shares_lent (tree) (shares) (ok) in record { proposal_value = it.0; proposal_len_bound = it.1 }
 
 pub overflow_add-owed : goal.overflow_add-owed
 overflow_add-owed c =
@@ -59,11 +59,11 @@ overflow_add-owed c =
     let ok : audit_check (tree) (shares) ≡ accepted = opened c.check_proposed-checked.ensures c.in-Accepted.is in
     let tree_ok : tree_check (tree) ≡ accepted = tree_taken (tree) (shares) (ok) in
     let owed_bound : c.parts_of-parts.result.minus + c.whole_cost.result ≤ 3000000000000000 = omega (
-        arith,
-        whole,
-        whole_bound (tree) (tree_accepted (tree) (tree_ok)),
-        c.parts_of-parts.ensures.minus_most,
-        ) in
+      arith,
+      whole,
+      whole_bound (tree) (tree_accepted (tree) (tree_ok)),
+      c.parts_of-parts.ensures.minus_most,
+    ) in
     omega (arith, owed_bound)
 
 pub less-requires : goal.less-requires
@@ -74,14 +74,14 @@ less-requires c =
     let ok : audit_check (tree) (shares) ≡ accepted = opened c.check_proposed-checked.ensures c.in-Accepted.is in
     let tree_ok : tree_check (tree) ≡ accepted = tree_taken (tree) (shares) (ok) in
     let owed_bound : c.parts_of-parts.result.minus + c.whole_cost.result ≤ 3000000000000000 = omega (
-        arith,
-        whole,
-        whole_bound (tree) (tree_accepted (tree) (tree_ok)),
-        c.parts_of-parts.ensures.minus_most,
-        ) in
+      arith,
+      whole,
+      whole_bound (tree) (tree_accepted (tree) (tree_ok)),
+      c.parts_of-parts.ensures.minus_most,
+    ) in
     let most = c.parts_of-parts.ensures.plus_most in
     let owed = owed_bound in
-    record {a_bound = omega (arith, most, owed); b_bound = omega (arith, most, owed); }
+    record { a_bound = omega (arith, most, owed); b_bound = omega (arith, most, owed) }
 
 pub returns : goal.returns
 unfolding total_answer

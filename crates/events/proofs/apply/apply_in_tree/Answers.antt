@@ -31,7 +31,7 @@ returns-in_default c =
     let checked : check_of c.check_event-fits.result ≡ fit_check (tree) (event) = c.check_event-fits.ensures ∙ fit_is (held) (event) c.requires.state_value in
     let away = turned_away (checked) c.in_default.is
     c.refusal_of.ensures in
-    record {answer_value = rw away; state_value_2 = rw away; }
+    record { answer_value = rw away; state_value_2 = rw away }
 
 pub members_after-requires : goal.members_after-requires
 members_after-requires c =
@@ -39,7 +39,7 @@ members_after-requires c =
     let tree : Tree = tree_in (held) in
     let pre = c.requires in
     let limits = tree_limits (tree) pre.state_value in
-    record {members_le_most_arcs = omega (arith, limits.members, pre.members_value); members_nonzero = omega (arith, limits.someone, pre.members_value); }
+    record { members_le_most_arcs = omega (arith, limits.members, pre.members_value); members_nonzero = omega (arith, limits.someone, pre.members_value) }
 
 pub carry_out-requires : goal.carry_out-requires
 carry_out-requires c =
@@ -51,17 +51,17 @@ carry_out-requires c =
     let fits : fit_check (tree) (event) ≡ accepted = opened (checked) c.in-Accepted.is in
     let laws : OutcomeLaws (tree) (event) = outcome_laws (tree) (event) c.requires.state_value (fits) in
     let tree_reached : tree_in (changed) ≡ reached (tree) (event) = changed_tree (held) (changed) (event).vertex (event).change
-        (omega (arith, (laws).vertex.last, tree_length (held))) c.changed-next.ensures.arcs_value
-        c.changed-next.ensures.marks_value in
+    (omega (arith, (laws).vertex.last, tree_length (held))) c.changed-next.ensures.arcs_value
+    c.changed-next.ensures.marks_value in
     let members_are : c.members_after.result ≡ member_count (network (tree_in (changed))) = c.members_after.ensures
-        ∙ ap (λ (n : ℕ). members_after n (event).change) c.requires.members_value
-        ∙ sym (laws).members
-        ∙ ap (λ (t : Tree). member_count (network t)) (sym (tree_reached)) in
+    ∙ ap (λ (n : ℕ). members_after n (event).change) c.requires.members_value
+    ∙ sym (laws).members
+    ∙ ap (λ (t : Tree). member_count (network t)) (sym (tree_reached)) in
     let next = changed in
     let few : next.arcs ≤ most_arcs =
     omega (arith, c.changed-next.ensures.arcs_value, c.requires.arcs_le_most_arcs) in
     let counts = count_le (length (tree_in next).parents) (network (tree_in next)).member in
-    record {arcs_le_most_arcs = few; members_value = members_are; members_le_most_arcs = omega (arith, members_are, counts, tree_length next, few); }
+    record { arcs_le_most_arcs = few; members_value = members_are; members_le_most_arcs = omega (arith, members_are, counts, tree_length next, few) }
 
 pub returns : goal.returns
 returns c =
@@ -73,13 +73,16 @@ returns c =
     let fits : fit_check (tree) (event) ≡ accepted = opened (checked) c.in-Accepted.is in
     let laws : OutcomeLaws (tree) (event) = outcome_laws (tree) (event) c.requires.state_value (fits) in
     let tree_reached : tree_in (changed) ≡ reached (tree) (event) = changed_tree (held) (changed) (event).vertex (event).change
-        (omega (arith, (laws).vertex.last, tree_length (held))) c.changed-next.ensures.arcs_value
-        c.changed-next.ensures.marks_value in
+    (omega (arith, (laws).vertex.last, tree_length (held))) c.changed-next.ensures.arcs_value
+    c.changed-next.ensures.marks_value in
     let here = tree_reached in
     let check = event_check_lem (tree) (event) c.requires.state_value (fits) in
     let state = held in
-    let n = c.args.committed in record {answer_value = c.carry_out.ensures.answer_value
+    let n = c.args.committed in record {
+      answer_value = c.carry_out.ensures.answer_value
           ∙ ap member_count_answer here
-          ∙ event_answer (tree) (event) c.requires.state_value (fits); state_value_2 = c.carry_out.ensures.state_value
+          ∙ event_answer (tree) (event) c.requires.state_value (fits);
+      state_value_2 = c.carry_out.ensures.state_value
           ∙ ap (λ (r : Tree). written (tree_check r) state (made_state r n)) here
-          ∙ ap (λ (x : Check). written x state (made_state (reached (tree) (event)) n)) (sym check); }
+          ∙ ap (λ (x : Check). written x state (made_state (reached (tree) (event)) n)) (sym check);
+    }

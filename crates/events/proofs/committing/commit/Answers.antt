@@ -14,7 +14,7 @@ pub returns-in_default : goal.returns-in_default
 unfolding commit_answer committed_state commit_check
 returns-in_default c =
     let away = turned_away c.check_number-checked.ensures c.in_default.is c.refusal_of.ensures in
-    record {answer_value = rw away; state_value = rw away; }
+    record { answer_value = rw away; state_value = rw away }
 
 pub returns : goal.returns
 unfolding commit_answer committed_state commit_check
@@ -24,4 +24,4 @@ returns c =
     let number_passes : number_check (quote).committed (held).committed ≡ accepted = opened c.check_number-checked.ensures c.in-Accepted.is in
     let up : (held).committed + 1 ≡ suc (held).committed = omega arith in
     let passes = number_passes in
-    record {answer_value = rw passes c.apply_event.ensures.answer_value; state_value = rw (passes, ← up) c.apply_event.ensures.state_value; }
+    record { answer_value = rw passes c.apply_event.ensures.answer_value; state_value = rw (passes, ← up) c.apply_event.ensures.state_value }

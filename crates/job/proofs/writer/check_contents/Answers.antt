@@ -23,7 +23,7 @@ pub returns-in_default-limits : goal.returns-in_default-limits
 unfolding contents_check
 returns-in_default-limits c =
     let given : Contents = let args = c.args in
-        contents args.note.now args.parents.now args.costs.now args.caps.now args.proposals.now in
+    contents args.note.now args.parents.now args.costs.now args.caps.now args.proposals.now in
     let plain : plain_check given.parents given.costs ≡ accepted = sym (plain_check_lem _ _) ∙ (tree_counted _ _ c.dead_end_members-count.ensures c.in-Members.is).0 in
     let members_are : c.in-Members.members ≡ members_of given = (tree_counted _ _ c.dead_end_members-count.ensures c.in-Members.is).1 in
     let caps_found : check_of c.check_caps-limits.result ≡ caps_check (members_of given) given.caps = rw members_are at c.check_caps-limits.ensures in
@@ -33,7 +33,7 @@ pub returns-in_default-shares : goal.returns-in_default-shares
 unfolding contents_check
 returns-in_default-shares c =
     let given : Contents = let args = c.args in
-        contents args.note.now args.parents.now args.costs.now args.caps.now args.proposals.now in
+    contents args.note.now args.parents.now args.costs.now args.caps.now args.proposals.now in
     let plain : plain_check given.parents given.costs ≡ accepted = sym (plain_check_lem _ _) ∙ (tree_counted _ _ c.dead_end_members-count.ensures c.in-Members.is).0 in
     let members_are : c.in-Members.members ≡ members_of given = (tree_counted _ _ c.dead_end_members-count.ensures c.in-Members.is).1 in
     let caps_found : check_of c.check_caps-limits.result ≡ caps_check (members_of given) given.caps = rw members_are at c.check_caps-limits.ensures in
@@ -46,7 +46,7 @@ pub returns : goal.returns
 unfolding contents_check
 returns c =
     let given : Contents = let args = c.args in
-        contents args.note.now args.parents.now args.costs.now args.caps.now args.proposals.now in
+    contents args.note.now args.parents.now args.costs.now args.caps.now args.proposals.now in
     let plain : plain_check given.parents given.costs ≡ accepted = sym (plain_check_lem _ _) ∙ (tree_counted _ _ c.dead_end_members-count.ensures c.in-Members.is).0 in
     let members_are : c.in-Members.members ≡ members_of given = (tree_counted _ _ c.dead_end_members-count.ensures c.in-Members.is).1 in
     let caps_found : check_of c.check_caps-limits.result ≡ caps_check (members_of given) given.caps = rw members_are at c.check_caps-limits.ensures in

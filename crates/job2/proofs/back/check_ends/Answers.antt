@@ -33,15 +33,14 @@ returns-in_default c =
 
 pub loop-i-preserved : goal.loop-i-preserved
 unfolding unmarked_check
-loop-i-preserved c =
-    (
-      omega arith,
-      step_accepted _ c.loop-i.i _ (omega arith) c.loop-i.invariant.1
-          (at_vertex (get_or c.args.ends.now c.loop-i.i 0)
-          (get_or c.args.marks.now c.loop-i.i 0) c.loop-i.i
-          c.check_vertex-found.ensures)
-          c.in-Accepted.is,
-    )
+loop-i-preserved c = (
+  omega arith,
+  step_accepted _ c.loop-i.i _ (omega arith) c.loop-i.invariant.1
+      (at_vertex (get_or c.args.ends.now c.loop-i.i 0)
+      (get_or c.args.marks.now c.loop-i.i 0) c.loop-i.i
+      c.check_vertex-found.ensures)
+      c.in-Accepted.is,
+)
 
 pub returns : goal.returns
 unfolding unmarked_check

@@ -16,7 +16,7 @@ use Rattle.job2.proofs.back.check_ends.Given as goal
 
 abbrev pub invariant-loop-i : goal.invariant-loop-i
 invariant-loop-i l =
-        (l.i ≤ length l.ends)
+    (l.i ≤ length l.ends)
     × (one_by_one (λ k. fault (marked l.ends k && not (marked l.marks k)) 29 k) l.i ≡ accepted)
 
 abbrev pub decreases-loop-i : goal.decreases-loop-i

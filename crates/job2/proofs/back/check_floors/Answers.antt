@@ -19,7 +19,7 @@ read_u64-requires c =
     let t = c.read_trailer-t.ensures in
     let within = member_column Two c.args.bytes.now {floor = 8} r.layout t.member_offset_is
     t.members_is refl 8 16 (omega arith) in
-    record {width_bound = omega arith; within = within; rows_in_bounds = omega (arith, r.room.for_caps, t.members_is); }
+    record { width_bound = omega arith; within = within; rows_in_bounds = omega (arith, r.room.for_caps, t.members_is) }
 
 pub slice_bounds-check_each-end : goal.slice_bounds-check_each-end
 slice_bounds-check_each-end c = omega (arith, (readable Two _ c.requires).room.for_caps, c.read_trailer-t.ensures.members_is)

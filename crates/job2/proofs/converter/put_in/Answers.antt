@@ -8,7 +8,7 @@ use Rattle.job2.proofs.converter.put_in.Goals as goal
 pub read_contents-t-requires : goal.read_contents-t-requires
 read_contents-t-requires c =
     let r = readable (other c.args.version) _ c.requires.bytes_value
-    in record {layout = rw c.other_version-from.ensures r.layout; room = r.room; }
+    in record { layout = rw c.other_version-from.ensures r.layout; room = r.room }
 
 pub slice_bounds-put_contents-end : goal.slice_bounds-put_contents-end
 slice_bounds-put_contents-end c =

@@ -22,4 +22,4 @@ pub returns : goal.returns
 returns c =
     let put = listed_end _ _ _ _ _ c.requires.parents_in_bounds c.loop-i.invariant c.loop-i-test.false in
     let long = arc_rows_length c.args.parents.now c.args.fillers.now c.args.costs.now in
-    record {put = put; value = omega (arith, put.ends, long); }
+    record { put = put; value = omega (arith, put.ends, long) }

@@ -10,7 +10,7 @@ use Rattle.job_bytes.proofs.put_parts.put_arcs.Given as goal
 
 abbrev pub invariant-loop-i : goal.invariant-loop-i
 invariant-loop-i l =
-        Listed (rows (λ i. arc_row (get_or l.parents i 0) (get_or l.fillers i 0) (get_or l.costs i 0))) 8 (length l.parents) l.initial.out l.at l.out
+    Listed (rows (λ i. arc_row (get_or l.parents i 0) (get_or l.fillers i 0) (get_or l.costs i 0))) 8 (length l.parents) l.initial.out l.at l.out
     l.next l.i
 
 abbrev pub decreases-loop-i : goal.decreases-loop-i

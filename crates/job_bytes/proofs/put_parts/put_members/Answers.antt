@@ -32,4 +32,4 @@ returns c =
     let put = listed_end _ _ _ _ _ c.requires.caps_in_bounds c.loop-j.invariant c.loop-j-test.false in
     let caps = args.caps.now in
     let long = member_rows_length args.version caps args.proposals.now (replicate (length caps) 0) in
-    record {put = put; value = omega (arith, put.ends, long); }
+    record { put = put; value = omega (arith, put.ends, long) }

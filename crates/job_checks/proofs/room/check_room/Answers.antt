@@ -25,12 +25,11 @@ returns-in_default c =
 
 pub loop-i-preserved : goal.loop-i-preserved
 unfolding room_check
-loop-i-preserved c =
-    (
-      omega arith,
-      step_accepted _ c.loop-i.i _ (omega arith) c.loop-i.invariant.1
-          c.check_length-found.ensures c.in-Accepted.is,
-    )
+loop-i-preserved c = (
+  omega arith,
+  step_accepted _ c.loop-i.i _ (omega arith) c.loop-i.invariant.1
+      c.check_length-found.ensures c.in-Accepted.is,
+)
 
 pub returns : goal.returns
 unfolding room_check

@@ -15,7 +15,7 @@ use Rattle.job_checks.proofs.room.check_room.Given as goal
 
 abbrev pub invariant-loop-i : goal.invariant-loop-i
 invariant-loop-i l =
-        (l.i ≤ length l.lengths)
+    (l.i ≤ length l.lengths)
     × (one_by_one (λ k. fault (ltb (of_arc l.lengths k) most_arcs) 10 0) l.i ≡ accepted)
 
 abbrev pub decreases-loop-i : goal.decreases-loop-i

@@ -6,7 +6,7 @@ use Rattle.key_search.proofs.choose.spread.Given as goal
 
 abbrev pub invariant-loop-i : goal.invariant-loop-i
 invariant-loop-i l =
-        Rising most_arcs l.order l.links
+    Rising most_arcs l.order l.links
     × ((p : ℕ) → p < length l.order → at l.lows (at l.order p) + 1 < at l.highs (at l.order p))
     × Spreading l.order l.links l.lows l.highs l.pivots l.i
 

@@ -6,7 +6,7 @@ use Rattle.key_search.proofs.members.place_members.Given as goal
 
 abbrev pub invariant-loop-j : goal.invariant-loop-j
 invariant-loop-j l =
-        Apart l.vertices × (length l.caps ≡ length l.vertices) × (l.j ≤ length l.vertices) × (length l.vertices ≤ most_arcs)
+    Apart l.vertices × (length l.caps ≡ length l.vertices) × (l.j ≤ length l.vertices) × (length l.vertices ≤ most_arcs)
     × Placing l.vertices l.caps l.caps_at l.numbers_at l.j
 
 abbrev pub decreases-loop-j : goal.decreases-loop-j

@@ -13,13 +13,13 @@ use Rattle.key_search.proofs.search.search.Goals as goal
 pub loop-count-init : goal.loop-count-init
 loop-count-init c =
     let ready : let args = c.args in Ready args.parents.now args.vertices.now args.caps.now args.bounds.now args.caps_at.now args.numbers_at.now = let pre = c.requires in
-        record {
-        sound = pre.sound;
-        listed = pre.listed;
-        capped = pre.capped;
-        bounded = pre.bounds;
-        placed = pre.at_vertices;
-        } in
+    record {
+      sound = pre.sound;
+      listed = pre.listed;
+      capped = pre.capped;
+      bounded = pre.bounds;
+      placed = pre.at_vertices;
+    } in
     let all = c.open_all.ensures in (
       ready,
       omega arith,
@@ -34,12 +34,12 @@ evaluate-requires c =
     let inv = c.loop-count.invariant in
     let all = inv.0 in
     let standing = inv.3 in
-    let adding = addable all standing c.choose.ensures in record {bounds_len_bound = few_bounds all; rising = rises_by_bounds all standing; addable = adding; by_index = closed all standing; by_index_2 = standing.no_sums; sums_value = standing.no_sum; }
+    let adding = addable all standing c.choose.ensures in record { bounds_len_bound = few_bounds all; rising = rises_by_bounds all standing; addable = adding; by_index = closed all standing; by_index_2 = standing.no_sums; sums_value = standing.no_sum }
 
 pub keep_open-count-requires : goal.keep_open-count-requires
 keep_open-count-requires c =
     let inv = c.loop-count.invariant in
-    let standing = inv.3 in record {bounds_len_bound = few_bounds inv.0; rising = rises_by_bounds inv.0 standing; by_index = room inv.0 standing; by_index_2 = closed inv.0 standing; }
+    let standing = inv.3 in record { bounds_len_bound = few_bounds inv.0; rising = rises_by_bounds inv.0 standing; by_index = room inv.0 standing; by_index_2 = closed inv.0 standing }
 
 pub loop-count-smaller : goal.loop-count-smaller
 loop-count-smaller c =

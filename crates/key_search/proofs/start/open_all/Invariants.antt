@@ -6,7 +6,7 @@ use Rattle.key_search.proofs.start.open_all.Given as goal
 
 abbrev pub invariant-loop-i : goal.invariant-loop-i
 invariant-loop-i l =
-        (length l.parents ≤ most_arcs)
+    (length l.parents ≤ most_arcs)
     × (l.i ≤ length l.parents)
     × Filling (length l.parents) suc l.order l.i
     × Linking l.parents l.links l.i

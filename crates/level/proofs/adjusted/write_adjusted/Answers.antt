@@ -40,8 +40,8 @@ pub overflow_add-below : goal.overflow_add-below
 overflow_add-below c =
     let net : Network = network_at c.args.parents.now c.args.costs.now c.args.vertices.now in
     let adjusted_here : c.greater_of-adjusted.result ≡ adjusted (net) c.args.floors.now (c.loop-k.k - 1) = let inv = c.loop-k.invariant in
-        adjusting_at _ _ _ c.args.floors.now inv.0 inv.1 inv.2 inv.4 inv.5 (omega arith)
-        (omega arith) inv.8 inv.9 c.greater_of-own.ensures c.greater_of-adjusted.ensures in
+    adjusting_at _ _ _ c.args.floors.now inv.0 inv.1 inv.2 inv.4 inv.5 (omega arith)
+    (omega arith) inv.8 inv.9 c.greater_of-own.ensures c.greater_of-adjusted.ensures in
     let at = c.loop-k in
     let inv = at.invariant in
     omega (
@@ -54,8 +54,8 @@ pub loop-k-preserved : goal.loop-k-preserved
 loop-k-preserved c =
     let net : Network = network_at c.args.parents.now c.args.costs.now c.args.vertices.now in
     let adjusted_here : c.greater_of-adjusted.result ≡ adjusted (net) c.args.floors.now (c.loop-k.k - 1) = let inv = c.loop-k.invariant in
-        adjusting_at _ _ _ c.args.floors.now inv.0 inv.1 inv.2 inv.4 inv.5 (omega arith)
-        (omega arith) inv.8 inv.9 c.greater_of-own.ensures c.greater_of-adjusted.ensures in
+    adjusting_at _ _ _ c.args.floors.now inv.0 inv.1 inv.2 inv.4 inv.5 (omega arith)
+    (omega arith) inv.8 inv.9 c.greater_of-own.ensures c.greater_of-adjusted.ensures in
     let inv = c.loop-k.invariant in (
       inv.0,
       inv.1,

@@ -15,7 +15,7 @@ use Rattle.level.proofs.adjusted.write_adjusted.Given as goal
 
 abbrev pub invariant-loop-k : goal.invariant-loop-k
 invariant-loop-k l =
-        Sound l.parents
+    Sound l.parents
     × Costed l.parents l.costs
     × Listed l.parents l.vertices
     × Capped (length l.vertices) l.floors

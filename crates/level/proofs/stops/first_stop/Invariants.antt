@@ -9,7 +9,7 @@ use Rattle.level.proofs.stops.first_stop.Given as goal
 
 abbrev pub invariant-loop-k : goal.invariant-loop-k
 invariant-loop-k l =
-        (length l.needs ≡ length l.parents)
+    (length l.needs ≡ length l.parents)
     × (length l.adjusted ≡ length l.parents)
     × (length l.sums ≡ length l.parents)
     × (l.k ≤ length l.parents)

@@ -10,7 +10,7 @@ use Rattle.margin.proofs.branch.write_branch_marks.Given as goal
 
 abbrev pub invariant-loop-i : goal.invariant-loop-i
 invariant-loop-i l =
-        Sound l.parents
+    Sound l.parents
     × (length l.marks ≡ length l.parents)
     × (length l.parents ≤ most_arcs)
     × (l.i ≤ length l.parents)

@@ -38,13 +38,13 @@ bounds-needs-k c =
 pub own_need-own-requires : goal.own_need-own-requires
 own_need-own-requires c =
     let place : c.loop-k.k - 1 - 1 < length c.args.parents.now = omega (arith, c.loop-k.invariant.4, c.loop-k-test.true) in
-    record {need_le_most_whole = need_fits c.loop-k.invariant.0 _ (place); margin_le_most_whole = c.loop-k.invariant.1; }
+    record { need_le_most_whole = need_fits c.loop-k.invariant.0 _ (place); margin_le_most_whole = c.loop-k.invariant.1 }
 
 pub overflow_add-below : goal.overflow_add-below
 overflow_add-below c =
     let raised_here : let args = c.args in c.if_used-need.result ≡ raised (network_at args.parents.now args.costs.now args.vertices.now) args.margin (c.loop-k.k - 1) = let inv = c.loop-k.invariant in
-        raising_at _ _ _ _ inv.0 (omega arith) (omega arith) inv.6 inv.2
-        c.own_need-own.ensures c.greater_of.ensures c.if_used-need.ensures in
+    raising_at _ _ _ _ inv.0 (omega arith) (omega arith) inv.6 inv.2
+    c.own_need-own.ensures c.greater_of.ensures c.if_used-need.ensures in
     let at = c.loop-k in
     let inv = at.invariant in
     omega (
@@ -56,8 +56,8 @@ overflow_add-below c =
 pub loop-k-preserved : goal.loop-k-preserved
 loop-k-preserved c =
     let raised_here : let args = c.args in c.if_used-need.result ≡ raised (network_at args.parents.now args.costs.now args.vertices.now) args.margin (c.loop-k.k - 1) = let inv = c.loop-k.invariant in
-        raising_at _ _ _ _ inv.0 (omega arith) (omega arith) inv.6 inv.2
-        c.own_need-own.ensures c.greater_of.ensures c.if_used-need.ensures in
+    raising_at _ _ _ _ inv.0 (omega arith) (omega arith) inv.6 inv.2
+    c.own_need-own.ensures c.greater_of.ensures c.if_used-need.ensures in
     let inv = c.loop-k.invariant in (
       inv.0,
       inv.1,

@@ -15,7 +15,7 @@ use Rattle.margin.proofs.raise.write_raised.Given as goal
 
 abbrev pub invariant-loop-k : goal.invariant-loop-k
 invariant-loop-k l =
-        Given l.parents l.costs l.vertices l.needs l.counts
+    Given l.parents l.costs l.vertices l.needs l.counts
     × (l.margin ≤ most_whole)
     × (l.users ≡ length l.vertices)
     × (0 < l.k)

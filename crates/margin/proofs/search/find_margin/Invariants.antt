@@ -15,7 +15,7 @@ use Rattle.margin.proofs.search.find_margin.Given as goal
 
 abbrev pub invariant-loop-low : goal.invariant-loop-low
 invariant-loop-low l =
-        Given l.parents l.costs l.vertices l.needs l.counts
+    Given l.parents l.costs l.vertices l.needs l.counts
     × In (length l.parents) l.arc
     × (l.need ≤ most_whole)
     × (length l.out ≡ length l.parents)

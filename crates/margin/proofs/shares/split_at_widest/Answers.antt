@@ -18,7 +18,7 @@ write_shares-requires c =
     as_many in
     let bounds = raised_bounds _ _ _ pre.sound pre.costed pre.listed _ rest.branched rest.vertices_nonzero is written filled
     as_many in
-    record {sound = pre.sound; listed = pre.listed; capped = caps; bounds = bounds; shares_len = rest.shares_len; }
+    record { sound = pre.sound; listed = pre.listed; capped = caps; bounds = bounds; shares_len = rest.shares_len }
 
 pub returns : goal.returns
 returns c =
@@ -31,4 +31,4 @@ returns c =
     let as_many = found.auto.ones ∙ rest.caps_len in
     let at-raised = level_at_raised _ _ _ pre.sound pre.costed pre.listed _ rest.branched rest.vertices_nonzero is written filled
     as_many in
-    record {value = is; shares_after = c.write_shares.ensures ∙ at-raised; }
+    record { value = is; shares_after = c.write_shares.ensures ∙ at-raised }

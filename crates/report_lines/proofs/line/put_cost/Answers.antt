@@ -6,4 +6,4 @@ use Rattle.report_lines.proofs.line.put_cost.Goals as goal
 pub returns : goal.returns
 returns c =
     let two = put_then c.put_labelled-a.ensures.put c.put_labelled-b.ensures.put in
-    record {put = put_then two c.put.ensures; upper_bound = omega arith; }
+    record { put = put_then two c.put.ensures; upper_bound = omega arith }

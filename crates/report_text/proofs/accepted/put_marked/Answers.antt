@@ -24,7 +24,7 @@ put_splits-requires c =
     let pre = c.requires in
     let most = few in
     let first = c.put_tree-next.ensures in
-    let lists = pre.in_bounds in record {marks_value = pre.marks_value; proposed_len = pre.proposed_len; floors_value = zeros; vertices_value = zeros; by_arc_value = zeros; shares_value = zeros; proposed_in_bounds = omega (arith, most, lists, first.put.same_length, first.upper_bound); }
+    let lists = pre.in_bounds in record { marks_value = pre.marks_value; proposed_len = pre.proposed_len; floors_value = zeros; vertices_value = zeros; by_arc_value = zeros; shares_value = zeros; proposed_in_bounds = omega (arith, most, lists, first.put.same_length, first.upper_bound) }
 
 pub returns : goal.returns
 returns c = put_then c.put_tree-next.ensures.put c.put_splits.ensures

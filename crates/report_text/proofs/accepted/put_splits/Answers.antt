@@ -36,7 +36,7 @@ returns c =
     let pre = c.requires in
     let level = c.split_level-level.ensures in
     let vertices =
-        members_listed tree pre.marks_value _ (entries (member_count (network tree)) pre.vertices_value) in
+    members_listed tree pre.marks_value _ (entries (member_count (network tree)) pre.vertices_value) in
     split_joined _ _ pre.proposed_len _ pre.floors_value pre.by_arc_value pre.shares_value
     c.put_level-next.ensures.put
     c.put_members.ensures

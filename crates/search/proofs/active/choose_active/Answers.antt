@@ -29,8 +29,7 @@ pub loop-i-preserved : goal.loop-i-preserved
 loop-i-preserved c =
     let at = c.loop-i in
     let next = add-one at.i in
-    let put = c.put.ensures in
-    (
+    let put = c.put.ensures in (
       at.invariant.0,
       at.invariant.1,
       omega arith,

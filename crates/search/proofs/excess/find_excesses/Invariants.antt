@@ -11,7 +11,7 @@ use Rattle.search.proofs.excess.find_excesses.Given as goal
 
 abbrev pub invariant-loop-k : goal.invariant-loop-k
 invariant-loop-k l =
-        Proposed l.parents l.costs l.marks l.proposal
+    Proposed l.parents l.costs l.marks l.proposal
     × (0 < l.k)
     × (l.k ≤ length l.parents + 1)
     × (length l.parents ≤ most_arcs)

@@ -15,7 +15,7 @@ add_up-requires c =
     let pre = c.requires in
     let written = c.write_at_members.ensures in
     let fits = placed_fits (net) (caps) written pre.sound.few pre.capped in
-    record {sound = pre.sound; out_len = placed_sized (net) (caps) written; out_bound = omega (arith, fits); }
+    record { sound = pre.sound; out_len = placed_sized (net) (caps) written; out_bound = omega (arith, fits) }
 
 pub returns : goal.returns
 unfolding sum_below
@@ -24,6 +24,9 @@ returns c =
     let caps : List ℕ = c.args.caps.now in
     let pre = c.requires in
     let written = c.write_at_members.ensures in
-    let sums = c.add_up.ensures in record {value = sums.value
+    let sums = c.add_up.ensures in record {
+      value = sums.value
           ∙ placed_total (net) (caps) written
-          (pre.capped.sized ∙ member_count_lem (net) pre.listed.are); out_after = sums.out_after ∙ placed_sums (net) (caps) written; }
+          (pre.capped.sized ∙ member_count_lem (net) pre.listed.are);
+      out_after = sums.out_after ∙ placed_sums (net) (caps) written;
+    }

@@ -26,8 +26,8 @@ pub loop-k-preserved : goal.loop-k-preserved
 loop-k-preserved c =
     let place : c.loop-k.k - 1 - 1 < length c.args.parents.now = omega (arith, c.loop-k.invariant.4, c.loop-k-test.true) in
     let here_used : let args = c.args in c.used_here-here.result ≡ in_use args.parents.now args.costs.now args.marks.now everyone (c.loop-k.k - 1) = let inv = c.loop-k.invariant in
-        c.used_here-here.ensures
-        ∙ using_at _ _ _ everyone inv.0 inv.2 (omega arith) (omega (arith, place)) inv.6.known in
+    c.used_here-here.ensures
+    ∙ using_at _ _ _ everyone inv.0 inv.2 (omega arith) (omega (arith, place)) inv.6.known in
     let inv = c.loop-k.invariant in (
       inv.0,
       inv.1,

@@ -15,7 +15,7 @@ use Rattle.tree.proofs.group.cost_of.Given as goal
 
 abbrev pub invariant-loop-k : goal.invariant-loop-k
 invariant-loop-k l =
-        Sound l.parents
+    Sound l.parents
     × Costed l.parents l.costs
     × Marked l.parents l.marks
     × (0 < l.k)

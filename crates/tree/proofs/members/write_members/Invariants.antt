@@ -9,7 +9,7 @@ use Rattle.tree.proofs.members.write_members.Given as goal
 
 abbrev pub invariant-loop-i : goal.invariant-loop-i
 invariant-loop-i l =
-        (length l.marks ≤ most_arcs)
+    (length l.marks ≤ most_arcs)
     × (l.i ≤ length l.marks)
     × (length l.out ≡ length l.initial.out)
     × (length l.out ≡ up_to l.marks (length l.marks))

@@ -29,11 +29,11 @@ pub add_up-requires : goal.add_up-requires
 add_up-requires c =
     let pre = c.requires in
     let costed = pre.costed in
-    let copied = c.widen.ensures in record {sound = pre.sound; out_len = ap length copied ∙ costed.sized; out_bound = omega (arith, all_sum _ _ costed copied, costs_bound _ _ pre.sound costed); }
+    let copied = c.widen.ensures in record { sound = pre.sound; out_len = ap length copied ∙ costed.sized; out_bound = omega (arith, all_sum _ _ costed copied, costs_bound _ _ pre.sound costed) }
 
 pub returns : goal.returns
 returns c =
     let costed = c.requires.costed in
     let copied = c.widen.ensures in
     let sums = c.add_up.ensures in
-    record {value = sums.value ∙ whole_sum _ _ costed copied; out_after = sums.out_after ∙ sums_needs _ _ costed copied; }
+    record { value = sums.value ∙ whole_sum _ _ costed copied; out_after = sums.out_after ∙ sums_needs _ _ costed copied }

@@ -19,7 +19,7 @@ loop-k-init c =
 pub overflow_add-total : goal.overflow_add-total
 overflow_add-total c =
     let sum_here : let at = c.loop-k in let args = c.args in get_or at.below (at.k - 1) 0 + get_or at.out (at.k - 1 - 1) 0 ≡ total args.parents.now args.out.now (at.k - 1) = let inv = c.loop-k.invariant in
-        summing_at _ _ inv.0 _ _ (omega arith) (omega arith) inv.4 in
+    summing_at _ _ inv.0 _ _ (omega arith) (omega arith) inv.4 in
     let at = c.loop-k in
     let i = at.k - 1 - 1 in
     omega (arith, summing_fits _ _ at.invariant.0 _ i (omega arith) (omega arith) at.invariant.4 _ (sum_here))
@@ -27,7 +27,7 @@ overflow_add-total c =
 pub overflow_add-below : goal.overflow_add-below
 overflow_add-below c =
     let sum_here : let at = c.loop-k in let args = c.args in get_or at.below (at.k - 1) 0 + get_or at.out (at.k - 1 - 1) 0 ≡ total args.parents.now args.out.now (at.k - 1) = let inv = c.loop-k.invariant in
-        summing_at _ _ inv.0 _ _ (omega arith) (omega arith) inv.4 in
+    summing_at _ _ inv.0 _ _ (omega arith) (omega arith) inv.4 in
     let at = c.loop-k in
     let i = at.k - 1 - 1 in
     omega (arith, summing_carry _ _ at.invariant.0 _ i (omega arith) (omega arith) at.invariant.4 _ (sum_here))
@@ -35,7 +35,7 @@ overflow_add-below c =
 pub loop-k-preserved : goal.loop-k-preserved
 loop-k-preserved c =
     let sum_here : let at = c.loop-k in let args = c.args in get_or at.below (at.k - 1) 0 + get_or at.out (at.k - 1 - 1) 0 ≡ total args.parents.now args.out.now (at.k - 1) = let inv = c.loop-k.invariant in
-        summing_at _ _ inv.0 _ _ (omega arith) (omega arith) inv.4 in
+    summing_at _ _ inv.0 _ _ (omega arith) (omega arith) inv.4 in
     let inv = c.loop-k.invariant in (
       inv.0,
       omega arith,
@@ -47,4 +47,4 @@ loop-k-preserved c =
 pub returns : goal.returns
 returns c =
     let inv = c.loop-k.invariant in
-    let xs = c.args.out.now in record {value = summing_whole _ _ inv.0 (omega arith) inv.4 ∙ ap (λ (m : ℕ). sum m (of_arc xs)) (sym c.requires.out_len); out_after = passing_end _ _ (omega arith) inv.4.passing; }
+    let xs = c.args.out.now in record { value = summing_whole _ _ inv.0 (omega arith) inv.4 ∙ ap (λ (m : ℕ). sum m (of_arc xs)) (sym c.requires.out_len); out_after = passing_end _ _ (omega arith) inv.4.passing }

@@ -13,7 +13,7 @@ use Rattle.tree.proofs.sums.add_up.Given as goal
 
 abbrev pub invariant-loop-k : goal.invariant-loop-k
 invariant-loop-k l =
-        Sound l.parents
+    Sound l.parents
     × (0 < l.k)
     × (l.k ≤ length l.parents + 1)
     × (sum (length l.parents) (of_arc l.initial.out) ≤ 9223372036854775807)

@@ -11,7 +11,7 @@ use Rattle.tree.proofs.whole.whole_cost.Given as goal
 
 abbrev pub invariant-loop-i : goal.invariant-loop-i
 invariant-loop-i l =
-        (l.i ≤ length l.costs)
+    (l.i ≤ length l.costs)
     × (length l.costs ≤ most_arcs)
     × (l.total ≤ l.i * 4294967295)
     × (l.total ≡ sum l.i (of_arc l.costs))
