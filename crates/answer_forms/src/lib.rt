@@ -1,4 +1,6 @@
 // The form of every check's answer, and of a refusal; the refusals' numbers.
+#![tactic(auto)]
+
 pub mod refusals;
 
 ghost use Rattle.std.specs.Prelude.{◌≡◌};

@@ -9,7 +9,7 @@ use native.Mathlib.Nat.{div-add-mod, mod-lt, mul-le-mul_left}
 use native.Mathlib.Omega.{arith}
 use lib.ListN.{length, get_or, length-append, get_or-append}
 use lib.Seq.{get_or_at, get_or-append-add}
-use Rattle.basics.specs.Sum.{list, entries}
+use Rattle.basics.specs.Sum.{list}
 use Rattle.basics.proofs.Sums.{In, in_more, in_last}
 use Rattle.basics.proofs.Lists.{entries_length, entries_at}
 use Rattle.game.specs.Shapley.{factorial}

@@ -1,6 +1,6 @@
 -- The tree that an event reaches from an accepted one: its check finds what the check of the outcome finds, and its
 -- members are one more, one fewer or as many.
-use Prim.Native.Nat.{ℕ, zero, suc, ◌+◌, ◌-◌, ◌≤◌}
+use Prim.Native.Nat.{ℕ, zero, suc, ◌+◌, ◌≤◌}
 use mathlib.Core.Path.{◌≡◌, refl, sym, ap, ◌∙◌}
 use mathlib.Core.Bool.{false, ◌||◌, ◌&&◌, not}
 use mathlib.Core.List.{List}

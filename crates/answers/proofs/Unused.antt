@@ -21,7 +21,7 @@ use Rattle.game.specs.Core.{users}
 use Rattle.game.specs.ByArc.{user_count, rank, tallies_at, by_arc}
 use Rattle.game.specs.Branch.{branch_marks, branch}
 use Rattle.game.specs.Margin.{widest, shares_at}
-use Rattle.game.specs.Level.{units, level}
+use Rattle.game.specs.Level.{units}
 use Rattle.game.specs.Group.{words_of, group_by_number}
 use Rattle.game.specs.Proposal.{difference}
 use Rattle.game.specs.Search.{is_in, named}

@@ -1,5 +1,5 @@
 -- What is proved of the step through all parent lists of 1 to 6 arcs.
-use Rattle.std.specs.Prelude.{ℕ, zero, suc, ◌+◌, ◌-◌, ◌≤◌, ◌<◌, ◌≡◌, true, ◌↔◌, List, [], ◌∷◌, ◌++◌, length, get_or, replicate}
+use Rattle.std.specs.Prelude.{ℕ, zero, suc, ◌+◌, ◌≤◌, ◌<◌, ◌≡◌, true, ◌↔◌, List, [], ◌∷◌, ◌++◌, length, get_or, replicate}
 use Rattle.limits.specs.Limits.{most_small_arcs}
 use Rattle.game.specs.Shapley.{factorial}
 use Rattle.answer_forms.specs.Answer.{accepted, value}

@@ -1,1 +1,3 @@
+#![tactic(auto)]
+
 // What each public entry answers, defined in specs/ from what is handed in; the worked examples in proofs/. No code.

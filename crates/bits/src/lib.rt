@@ -1,4 +1,6 @@
 // A group of members as sixteen 64-bit words: a member put in, its size, and the check on what is handed in.
+#![tactic(auto)]
+
 ghost use Rattle.std.specs.Prelude.{◌≡◌, ◌&&◌, ◌||◌, ℕ, ◌<◌, eqb, ltb};
 ghost use Rattle.basics.specs.Bit.{digit, bit};
 ghost use Rattle.basics.specs.Sum.{size};

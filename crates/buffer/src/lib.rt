@@ -1,4 +1,6 @@
 // Bytes written into a lent list at a place.
+#![tactic(auto)]
+
 ghost use Rattle.std.specs.Prelude.{◌+◌, ◌≤◌, length};
 ghost use Rattle.buffer.specs.Put.{Put};
 

@@ -1,5 +1,7 @@
 // The checks of lists as they are handed in: a tree with its marks and without, a parent list, caps, floors, a
 // proposal, a branch's arc, an output list.
+#![tactic(auto)]
+
 mod arc;
 mod branch;
 mod caps;

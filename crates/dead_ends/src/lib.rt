@@ -1,4 +1,6 @@
 // Which vertices have a child, and the marks of the dead ends, which have none. The parent list need not be checked.
+#![tactic(auto)]
+
 ghost use Rattle.std.specs.Prelude.{◌≡◌, ℕ, ◌≤◌, false, not, cond, length, get_or, ltb};
 ghost use Rattle.limits.specs.Limits.{most_arcs};
 ghost use Rattle.basics.specs.Sum.{pick};

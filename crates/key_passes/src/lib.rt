@@ -1,6 +1,8 @@
 // The passes of a round over the open vertices: what the users of each arc have at its pivot, what follows for the keys,
 // and which vertices stay open. A key stands for a level and a limit on member numbers, level * 1024 + limit: at it a
 // member has the level, one more where its number is below the limit, and at most its cap.
+#![tactic(auto)]
+
 mod flags;
 mod keep;
 mod share;

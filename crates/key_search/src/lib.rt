@@ -2,6 +2,8 @@
 // it a member has the level, one more where its number is below the limit, and at most its cap. A member's share is the
 // one at the greatest key on its path. The search finds these keys for all vertices together, in rounds: each tries a
 // key for every open vertex, by one pass over them from the last to the first and some from the first to the last.
+#![tactic(auto)]
+
 mod choose;
 mod members;
 mod search;

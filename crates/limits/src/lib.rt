@@ -1,3 +1,5 @@
+#![tactic(auto)]
+
 // The limits of the specification, as specs/Limits.antt has them.
 pub const MOST_ARCS: usize = 1023;
 

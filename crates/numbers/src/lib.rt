@@ -1,5 +1,7 @@
 // A bit of a word; signed numbers by their parts and bits; and small choices between numbers, so that the loops that
 // use them have no branch.
+#![tactic(auto)]
+
 mod signed;
 
 ghost use Rattle.std.specs.Prelude.{◌≡◌, ◌-◌, ◌<◌, ◌≤◌, max, ltb};

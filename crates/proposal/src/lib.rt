@@ -1,4 +1,6 @@
 // The sums of a proposal's positive and negative parts, and their difference.
+#![tactic(auto)]
+
 ghost use Rattle.std.specs.Prelude.{◌≤◌, ◌≡◌, length};
 ghost use Rattle.std.proofs.Math.IntN.{sub_ℕ};
 ghost use Rattle.answer_forms.specs.Answer.{accepted};

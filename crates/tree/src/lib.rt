@@ -1,5 +1,7 @@
 // Passes over a tree. Those that gather at the parents go from arc m down to arc 1, so that an arc is met
 // after all arcs below it. Arrays are indexed by vertex, place 0 for the source.
+#![tactic(auto)]
+
 mod caps;
 mod constant;
 mod counted;

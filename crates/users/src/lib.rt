@@ -1,4 +1,6 @@
 // The members in depth-first order, so that the users of every arc stand side by side in one list.
+#![tactic(auto)]
+
 ghost use Rattle.std.specs.Prelude.{◌≡◌, [], length};
 ghost use Rattle.basics.specs.Sum.{list};
 ghost use Rattle.game.specs.ByArc.{user_count};

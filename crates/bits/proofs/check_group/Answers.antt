@@ -2,8 +2,7 @@ use Prim.Native.Nat.{◌-◌}
 use mathlib.Core.Path.{◌≡◌, sym, ◌∙◌}
 use native.Mathlib.Nat.{sub-add-eq}
 use native.Mathlib.Omega.{arith}
-use borrow.Author.Rules.{rules}
-use Rattle.answers.specs.Checks.{bits_check, group_check}
+use Rattle.answers.specs.Checks.{bits_check}
 use Rattle.bits.proofs.Beyond.{bits_found, bits_skip}
 use Rattle.bits.proofs.check_group.Goals as goal
 

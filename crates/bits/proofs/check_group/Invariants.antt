@@ -1,10 +1,6 @@
 use Prim.Native.Nat.{◌-◌}
-use mathlib.Core.Path.{◌≡◌, sym, ◌∙◌}
-use native.Mathlib.Nat.{sub-add-eq}
-use native.Mathlib.Omega.{arith}
-use borrow.Author.Rules.{rules}
+use mathlib.Core.Path.{◌≡◌}
 use Rattle.answers.specs.Checks.{bits_check, group_check}
-use Rattle.bits.proofs.Beyond.{bits_found, bits_skip}
 use Rattle.bits.proofs.check_group.Given as goal
 
 abbrev pub invariant-loop-j : goal.invariant-loop-j

@@ -1,6 +1,5 @@
 use mathlib.Core.Path.{◌≡◌, sym, ◌∙◌}
 use native.Mathlib.Omega.{arith}
-use borrow.Author.Rules.{rules}
 use Rattle.basics.specs.Bit.{bit}
 use Rattle.bits.proofs.Words.{clear_rest}
 use Rattle.bits.proofs.clear_run.Goals as goal

@@ -1,5 +1,3 @@
-use native.Mathlib.Omega.{arith}
-use lib.Count.{ones-le}
 use Rattle.bits.proofs.Words.{ones_digits}
 use Rattle.bits.proofs.ones_in.Goals as goal
 

@@ -1,8 +1,6 @@
 use Prim.Native.Nat.{◌/◌}
-use mathlib.Core.Bool.{or-false, and-true, and-false}
-use mathlib.Core.Logic.{⊎_elim}
+use mathlib.Core.Bool.{and-true}
 use native.Mathlib.Omega.{arith}
-use borrow.Author.Rules.{rules}
 use borrow.Author.Tests.{ltb-true, lt-ltb}
 use Rattle.limits.specs.Limits.{group_bits}
 use Rattle.game.proofs.Encoding.{encoded_set}

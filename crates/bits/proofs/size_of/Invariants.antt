@@ -1,12 +1,7 @@
 use Prim.Native.Nat.{◌*◌, ◌-◌, ◌≤◌}
 use mathlib.Core.Path.{◌≡◌}
-use native.Mathlib.Omega.{arith}
-use borrow.Author.Rules.{rules}
-use lib.ListN.{get_or}
-use Rattle.basics.specs.Bit.{digit, bit}
+use Rattle.basics.specs.Bit.{bit}
 use Rattle.basics.specs.Sum.{size}
-use Rattle.basics.proofs.Sizes.{size_le}
-use Rattle.bits.proofs.Words.{size_word}
 use Rattle.bits.proofs.size_of.Given as goal
 
 abbrev pub invariant-loop-i : goal.invariant-loop-i

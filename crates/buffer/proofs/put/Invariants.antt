@@ -1,7 +1,6 @@
 use Prim.Native.Nat.{◌-◌}
 use lib.ListN.{length}
-use borrow.Author.Rules.{rules}
-use Rattle.buffer.proofs.Pieces.{Copying, copy_start, copy_on, copy_end}
+use Rattle.buffer.proofs.Pieces.{Copying}
 use Rattle.buffer.proofs.put.Given as goal
 
 abbrev pub invariant-loop-i : goal.invariant-loop-i

@@ -1,8 +1,5 @@
-use Prim.Native.Nat.{◌-◌, ◌≤◌}
 use native.Mathlib.Omega.{arith}
-use lib.ListN.{length}
-use borrow.Author.Rules.{rules}
-use Rattle.dead_ends.proofs.ChildPass.{Naming, naming_start, naming_place, naming_on, naming_end}
+use Rattle.dead_ends.proofs.ChildPass.{naming_start, naming_end}
 use Rattle.dead_ends.proofs.find_children.Goals as goal
 
 pub loop-i-init : goal.loop-i-init

@@ -1,8 +1,6 @@
 use Prim.Native.Nat.{◌-◌, ◌≤◌}
-use native.Mathlib.Omega.{arith}
 use lib.ListN.{length}
-use borrow.Author.Rules.{rules}
-use Rattle.dead_ends.proofs.ChildPass.{Naming, naming_start, naming_place, naming_on, naming_end}
+use Rattle.dead_ends.proofs.ChildPass.{Naming}
 use Rattle.dead_ends.proofs.find_children.Given as goal
 
 abbrev pub invariant-loop-i : goal.invariant-loop-i

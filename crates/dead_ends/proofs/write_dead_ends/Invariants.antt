@@ -1,14 +1,11 @@
 use Prim.Native.Nat.{ℕ, suc, ◌-◌, ◌≤◌}
-use mathlib.Core.Path.{◌≡◌, refl, ap, ◌∙◌}
-use mathlib.Core.Bool.{Bool, false, not}
-use native.Mathlib.Numerals.{add-one}
-use native.Mathlib.Omega.{arith}
+use mathlib.Core.Path.{◌≡◌}
+use mathlib.Core.Bool.{false, not}
 use lib.ListN.{length, get_or}
-use borrow.Author.Rules.{rules}
 use Rattle.limits.specs.Limits.{most_arcs}
 use Rattle.basics.specs.Sum.{pick}
-use Rattle.basics.proofs.Filling.{Filling, filling_start, filling_on, filling_list}
-use Rattle.game.specs.Tree.{has_child, dead_ends}
+use Rattle.basics.proofs.Filling.{Filling}
+use Rattle.game.specs.Tree.{has_child}
 use Rattle.dead_ends.proofs.write_dead_ends.Given as goal
 
 abbrev pub invariant-loop-i : goal.invariant-loop-i

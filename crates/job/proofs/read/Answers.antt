@@ -15,7 +15,8 @@ use Rattle.job.proofs.read.Goals as goal
 pub returns-in_default : goal.returns-in_default
 returns-in_default c =
     let room = c.check_room-room.ensures in
-    let it = no_room _ _ (turned_away room c.in_default.is c.refusal_of.ensures) in record { result_value = it.0; proposals_after = it.1 }
+    let it = no_room _ _ (turned_away room c.in_default.is c.refusal_of.ensures) in
+    record { result_value = it.0; proposals_after = it.1 }
 
 pub returns-in_default-job : goal.returns-in_default-job
 returns-in_default-job c =
@@ -23,7 +24,11 @@ returns-in_default-job c =
     lent args.parents.now args.costs.now args.caps.now args.proposals.now in
     let roomy : room_in lists ≡ accepted = opened c.check_room-room.ensures c.in-Accepted.is in
     let it = no_job _ _ roomy
-    (turned_away c.check_job-job.ensures c.in_default-job.is c.refusal_of-in_default-job.ensures) in record { result_value = it.0; proposals_after = it.1 }
+    (turned_away c.check_job-job.ensures c.in_default-job.is c.refusal_of-in_default-job.ensures) in
+    record {
+      result_value = it.0;
+      proposals_after = it.1;
+    }
 
 pub read_contents-t-requires : goal.read_contents-t-requires
 read_contents-t-requires c =

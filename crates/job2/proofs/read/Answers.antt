@@ -20,7 +20,11 @@ returns-in_default c =
     lent2 args.parents.now args.costs.now args.marks.now args.caps.now args.proposals.now
     args.floors.now in
     let it = no_room _ lists
-    (turned_away c.check_room-room.ensures c.in_default.is c.refusal_of.ensures) in record { result_value = it.0; floors_after = it.1 }
+    (turned_away c.check_room-room.ensures c.in_default.is c.refusal_of.ensures) in
+    record {
+      result_value = it.0;
+      floors_after = it.1;
+    }
 
 pub returns-in_default-job : goal.returns-in_default-job
 returns-in_default-job c =
@@ -29,7 +33,11 @@ returns-in_default-job c =
     args.floors.now in
     let roomy : room2_in lists ≡ accepted = opened c.check_room-room.ensures c.in-Accepted.is in
     let it = no_job _ lists roomy
-    (turned_away c.check_job-job.ensures c.in_default-job.is c.refusal_of-in_default-job.ensures) in record { result_value = it.0; floors_after = it.1 }
+    (turned_away c.check_job-job.ensures c.in_default-job.is c.refusal_of-in_default-job.ensures) in
+    record {
+      result_value = it.0;
+      floors_after = it.1;
+    }
 
 pub read_contents-t-requires : goal.read_contents-t-requires
 read_contents-t-requires c =
@@ -55,7 +63,10 @@ read_u16-requires c =
     let r = readable Two bytes checked in
     let t = c.read_contents-t.ensures.trailer_of in
     let space = (has_room _ lent_lists roomy checked).for_marks in
-    record { within = λ i l. omega (arith, r.arcs_within, t.arc_offset_is, t.arcs_is); rows_in_bounds = omega (arith, space, t.arcs_is) }
+    record {
+      within = λ i l. omega (arith, r.arcs_within, t.arc_offset_is, t.arcs_is);
+      rows_in_bounds = omega (arith, space, t.arcs_is);
+    }
 
 pub read_u64-requires : goal.read_u64-requires
 unfolding floor_width

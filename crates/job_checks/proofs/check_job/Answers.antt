@@ -14,23 +14,31 @@ returns-in_default c = stopped _ c.check_form-form.ensures c.in_default.is
 
 pub check_fillers-fillers-requires : goal.check_fillers-fillers-requires
 check_fillers-fillers-requires c =
-    let formed : let args = c.args in form_check args.version args.bytes.now ≡ accepted = opened c.check_form-form.ensures c.in-Accepted.is in
+    let formed : let args =
+    c.args in form_check args.version args.bytes.now
+    ≡ accepted = opened c.check_form-form.ensures c.in-Accepted.is in
     form_layout _ _ (formed)
 
 pub returns-in_default-fillers : goal.returns-in_default-fillers
 unfolding job_check
 returns-in_default-fillers c =
-    let formed : let args = c.args in form_check args.version args.bytes.now ≡ accepted = opened c.check_form-form.ensures c.in-Accepted.is in
+    let formed : let args =
+    c.args in form_check args.version args.bytes.now
+    ≡ accepted = opened c.check_form-form.ensures c.in-Accepted.is in
     went_on (formed) (stopped _ c.check_fillers-fillers.ensures c.in_default-fillers.is)
 
 pub check_values-requires : goal.check_values-requires
 check_values-requires c =
-    let formed : let args = c.args in form_check args.version args.bytes.now ≡ accepted = opened c.check_form-form.ensures c.in-Accepted.is in
+    let formed : let args =
+    c.args in form_check args.version args.bytes.now
+    ≡ accepted = opened c.check_form-form.ensures c.in-Accepted.is in
     form_layout _ _ (formed)
 
 pub returns : goal.returns
 unfolding job_check
 returns c =
-    let formed : let args = c.args in form_check args.version args.bytes.now ≡ accepted = opened c.check_form-form.ensures c.in-Accepted.is in
+    let formed : let args =
+    c.args in form_check args.version args.bytes.now
+    ≡ accepted = opened c.check_form-form.ensures c.in-Accepted.is in
     went_on (formed)
     (went_on (opened c.check_fillers-fillers.ensures c.in-Accepted-fillers.is) c.check_values.ensures)

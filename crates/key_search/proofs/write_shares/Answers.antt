@@ -1,4 +1,4 @@
-use Rattle.std.proofs.Common.{◌∙◌, rules}
+use Rattle.std.proofs.Common.{◌∙◌}
 use Rattle.limits.specs.Limits.{most_arcs}
 use Rattle.basics.proofs.Lists.{zeros_length}
 use Rattle.game.proofs.Encoding.{zeros}
@@ -9,17 +9,36 @@ use Rattle.key_search.proofs.write_shares.Goals as goal
 pub place_members-requires : goal.place_members-requires
 place_members-requires c =
     let pre = c.requires in
-    let listed = pre.listed in record { vertices_len_bound = vertices_few _ _ listed pre.sound; apart = vertices_apart _ _ listed pre.sound; caps_len = pre.capped.sized; by_index = zeros 1024 }
+    let listed = pre.listed in
+    record {
+      vertices_len_bound = vertices_few _ _ listed pre.sound;
+      apart = vertices_apart _ _ listed pre.sound;
+      caps_len = pre.capped.sized;
+      by_index = zeros 1024;
+    }
 
 pub search-requires : goal.search-requires
 search-requires c =
     let pre = c.requires in
-    let room = zeros_length most_arcs _ pre.sound.few in record { sound = pre.sound; listed = pre.listed; capped = pre.capped; bounds = pre.bounds; at_vertices = c.place_members.ensures; order_len = room; by_index = zeros 1024 }
+    let room = zeros_length most_arcs _ pre.sound.few in
+    record {
+      sound = pre.sound;
+      listed = pre.listed;
+      capped = pre.capped;
+      bounds = pre.bounds;
+      at_vertices = c.place_members.ensures;
+      order_len = room;
+      by_index = zeros 1024;
+    }
 
 pub read_off-requires : goal.read_off-requires
 read_off-requires c =
     let pre = c.requires in
-    record { by_index = (vertices_apart _ _ pre.listed pre.sound).few; caps_len = pre.capped.sized; shares_len = pre.shares_len }
+    record {
+      by_index = (vertices_apart _ _ pre.listed pre.sound).few;
+      caps_len = pre.capped.sized;
+      shares_len = pre.shares_len;
+    }
 
 pub returns : goal.returns
 returns c =

@@ -17,7 +17,11 @@ returns-then-arc-eq0 c =
       room = c.rising_arc-arc.ensures.lower_bound;
       full = c.rising_arc-arc.ensures.by_index;
     } in
-    record { value = rw (none_follows (rises) (omega (arith, c.if-arc-eq0.true, c.rising_arc-arc.ensures.upper_bound))) refl; parents_after = rw (none_follows (rises) (omega (arith, c.if-arc-eq0.true, c.rising_arc-arc.ensures.upper_bound))) refl }
+    record {
+      value = rw (none_follows (rises) (omega (arith, c.if-arc-eq0.true, c.rising_arc-arc.ensures.upper_bound))) refl;
+      parents_after =
+          rw (none_follows (rises) (omega (arith, c.if-arc-eq0.true, c.rising_arc-arc.ensures.upper_bound))) refl;
+    }
 
 pub overflow_add-parents : goal.overflow_add-parents
 overflow_add-parents c =
@@ -47,4 +51,7 @@ returns c =
       full = c.rising_arc-arc.ensures.by_index;
     } in
     let above : 0 < c.rising_arc-arc.result = omega (arith, c.if-arc-eq0.false) in
-    record { value = rw (raised_follows (rises) (above) c.clear_behind.ensures) refl; parents_after = rw (raised_follows (rises) (above) c.clear_behind.ensures) refl }
+    record {
+      value = rw (raised_follows (rises) (above) c.clear_behind.ensures) refl;
+      parents_after = rw (raised_follows (rises) (above) c.clear_behind.ensures) refl;
+    }

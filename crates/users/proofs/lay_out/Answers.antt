@@ -10,7 +10,10 @@ write_starts-requires c =
 pub write_order-requires : goal.write_order-requires
 write_order-requires c =
     let pre = c.requires in
-    record { apart = members_apart _ _ _ _ pre.sound pre.counts_value c.write_starts.ensures pre.listed; order_len = pre.order_len }
+    record {
+      apart = members_apart _ _ _ _ pre.sound pre.counts_value c.write_starts.ensures pre.listed;
+      order_len = pre.order_len;
+    }
 
 pub returns : goal.returns
 returns c =

@@ -1,11 +1,6 @@
-use Prim.Native.Nat.{◌-◌, ◌<◌}
-use lib.ListN.{length, get_or}
 use native.Mathlib.Numerals.{add-one}
 use native.Mathlib.Omega.{arith}
-use borrow.Author.Rules.{rules}
-use Rattle.tree.specs.Passes.{Sound}
-use Rattle.users.specs.Layout.{Counts}
-use Rattle.users.proofs.StartPass.{Beginning, beginning_start, start_fits, beginning_on, beginning_end}
+use Rattle.users.proofs.StartPass.{beginning_on}
 use Rattle.users.proofs.write_starts.Goals as goal
 
 pub loop-i-preserved : goal.loop-i-preserved

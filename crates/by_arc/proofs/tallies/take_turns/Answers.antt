@@ -16,8 +16,14 @@ pub loop-k-init : goal.loop-k-init
 loop-k-init c =
     let pre = c.requires in
     let args = c.args in
-    let laid = with_costs _ args.costs.now args.vertices.now pre.laid_out in
-    (pre.sound, pre.costs_len, laid, refl, omega (arith, pre.costs_len), turned_start _ laid pre.keys_value pre.costs_len)
+    let laid = with_costs _ args.costs.now args.vertices.now pre.laid_out in (
+      pre.sound,
+      pre.costs_len,
+      laid,
+      refl,
+      omega (arith, pre.costs_len),
+      turned_start _ laid pre.keys_value pre.costs_len,
+    )
 
 pub overflow_cast-users : goal.overflow_cast-users
 overflow_cast-users c =
@@ -28,7 +34,8 @@ overflow_cast-users c =
       count_le (length c.args.parents.now) (listed c.args.vertices.now),
       pre.sound.few,
     ) in
-    let part_fits : let args = c.args in let place = c.loop-k.k - 1 in get_or args.starts.now place 0 + get_or args.counts.now place 0 ≤ most_arcs = let at = c.loop-k in
+    let part_fits : let args =
+    c.args in let place = c.loop-k.k - 1 in get_or args.starts.now place 0 + get_or args.counts.now place 0 ≤ most_arcs = let at = c.loop-k in
     omega (
       arith,
       part_within at.invariant.2 at.k (omega arith) at.invariant.4,
@@ -45,7 +52,8 @@ overflow_add-from c =
       count_le (length c.args.parents.now) (listed c.args.vertices.now),
       pre.sound.few,
     ) in
-    let part_fits : let args = c.args in let place = c.loop-k.k - 1 in get_or args.starts.now place 0 + get_or args.counts.now place 0 ≤ most_arcs = let at = c.loop-k in
+    let part_fits : let args =
+    c.args in let place = c.loop-k.k - 1 in get_or args.starts.now place 0 + get_or args.counts.now place 0 ≤ most_arcs = let at = c.loop-k in
     omega (
       arith,
       part_within at.invariant.2 at.k (omega arith) at.invariant.4,
@@ -62,7 +70,8 @@ offset_bounds-keys-from c =
       count_le (length c.args.parents.now) (listed c.args.vertices.now),
       pre.sound.few,
     ) in
-    let part_fits : let args = c.args in let place = c.loop-k.k - 1 in get_or args.starts.now place 0 + get_or args.counts.now place 0 ≤ most_arcs = let at = c.loop-k in
+    let part_fits : let args =
+    c.args in let place = c.loop-k.k - 1 in get_or args.starts.now place 0 + get_or args.counts.now place 0 ≤ most_arcs = let at = c.loop-k in
     omega (
       arith,
       part_within at.invariant.2 at.k (omega arith) at.invariant.4,
@@ -84,8 +93,11 @@ give_in_turn-requires c =
       count_le (length c.args.parents.now) (listed c.args.vertices.now),
       pre.sound.few,
     ) in
-    let start_is : let starts = c.args.starts.now in get_or starts (c.loop-k.k - 1) 0 ≡ of_arc starts c.loop-k.k = entry _ c.loop-k.k (omega arith) in
-    let size_is : let args = c.args in let place = c.loop-k.k - 1 in let first = get_or args.starts.now place 0 in first + get_or args.counts.now place 0 - first ≡ of_arc args.counts.now c.loop-k.k = omega (arith, entry c.args.counts.now c.loop-k.k (omega arith)) in
+    let start_is : let starts =
+    c.args.starts.now in get_or starts (c.loop-k.k - 1) 0
+    ≡ of_arc starts c.loop-k.k = entry _ c.loop-k.k (omega arith) in
+    let size_is : let args =
+    c.args in let place = c.loop-k.k - 1 in let first = get_or args.starts.now place 0 in first + get_or args.counts.now place 0 - first ≡ of_arc args.counts.now c.loop-k.k = omega (arith, entry c.args.counts.now c.loop-k.k (omega arith)) in
     let at = c.loop-k in
     let low : 1 ≤ at.k = omega arith in
     let few = few_members in record {
@@ -101,8 +113,11 @@ give_in_turn-requires c =
 
 pub loop-k-preserved : goal.loop-k-preserved
 loop-k-preserved c =
-    let start_is : let starts = c.args.starts.now in get_or starts (c.loop-k.k - 1) 0 ≡ of_arc starts c.loop-k.k = entry _ c.loop-k.k (omega arith) in
-    let size_is : let args = c.args in let place = c.loop-k.k - 1 in let first = get_or args.starts.now place 0 in first + get_or args.counts.now place 0 - first ≡ of_arc args.counts.now c.loop-k.k = omega (arith, entry c.args.counts.now c.loop-k.k (omega arith)) in
+    let start_is : let starts =
+    c.args.starts.now in get_or starts (c.loop-k.k - 1) 0
+    ≡ of_arc starts c.loop-k.k = entry _ c.loop-k.k (omega arith) in
+    let size_is : let args =
+    c.args in let place = c.loop-k.k - 1 in let first = get_or args.starts.now place 0 in first + get_or args.counts.now place 0 - first ≡ of_arc args.counts.now c.loop-k.k = omega (arith, entry c.args.counts.now c.loop-k.k (omega arith)) in
     let at = c.loop-k in
     let args = c.args in
     let low : 1 ≤ at.k = omega arith in

@@ -8,5 +8,11 @@ pub returns : goal.returns
 returns c =
     let asked = c.ask-asked in
     let event = c.event_by.ensures in
-    let it = stands_quoted asked.result.shares c.encode_asked.ensures (asked.ensures.answer_value ∙ ap (ask_answer _) event)
-    (asked_back _ _ _) (asked.ensures.shares_value ∙ ap (asked_shares _) event) in record { result_value = it.0; value = it.1.0; shares_value = it.1.1 }
+    let it =
+    stands_quoted asked.result.shares c.encode_asked.ensures (asked.ensures.answer_value ∙ ap (ask_answer _) event)
+    (asked_back _ _ _) (asked.ensures.shares_value ∙ ap (asked_shares _) event) in
+    record {
+      result_value = it.0;
+      value = it.1.0;
+      shares_value = it.1.1;
+    }

@@ -12,4 +12,9 @@ returns c =
     let quote = ap (λ (e : Event). quote_at e number) c.event_by-event.ensures in
     let it = stands_beside committed.result.state c.encode_state.ensures
     (committed.ensures.answer_value ∙ ap (commit_answer _) quote) (committed_back _ _ _)
-    (committed.ensures.state_value ∙ ap (committed_state _) quote) in record { result_value = it.0; value = it.1.0; state_value = it.1.1 }
+    (committed.ensures.state_value ∙ ap (committed_state _) quote) in
+    record {
+      result_value = it.0;
+      value = it.1.0;
+      state_value = it.1.1;
+    }

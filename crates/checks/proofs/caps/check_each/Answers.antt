@@ -1,9 +1,5 @@
-use Prim.Native.Nat.{◌-◌, ◌≤◌}
-use mathlib.Core.Path.{◌≡◌, refl, sym, ◌∙◌}
+use mathlib.Core.Path.{sym, ◌∙◌}
 use native.Mathlib.Omega.{arith}
-use borrow.Author.Rules.{rules}
-use lib.ListN.{length, drop}
-use Rattle.answers.specs.Checks.{range_check}
 use Rattle.answers.specs.Level.{outside_cap}
 use Rattle.checks.proofs.Range.{range_on, range_stop, range_end}
 use Rattle.checks.proofs.caps.check_each.Goals as goal

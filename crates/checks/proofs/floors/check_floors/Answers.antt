@@ -1,11 +1,7 @@
-use Prim.Native.Nat.{◌+◌, ◌-◌, ◌≤◌}
-use mathlib.Core.Path.{◌≡◌, refl, sym, ap, ◌∙◌}
+use Prim.Native.Nat.{◌+◌}
+use mathlib.Core.Path.{refl}
 use native.Mathlib.Omega.{arith}
-use borrow.Author.Rules.{rules}
-use lib.ListN.{length}
-use Rattle.answer_forms.specs.Answer.{accepted}
 use Rattle.answers.specs.Checks.{one_by_one}
-use Rattle.answers.specs.Level.{floors_check}
 use Rattle.answers.proofs.OneByOne.{step_accepted, step_refused}
 use Rattle.checks.proofs.floors.check_floors.Goals as goal
 

@@ -1,12 +1,9 @@
-use Prim.Native.Nat.{ℕ, suc, ◌-◌, ◌≤◌}
-use mathlib.Core.Path.{◌≡◌, refl, sym, ap, ap₂, ◌∙◌}
-use mathlib.Core.Bool.{Bool, false, not, ◌||◌}
-use native.Mathlib.Numerals.{add-one}
+use Prim.Native.Nat.{suc}
+use mathlib.Core.Path.{sym, ap}
+use mathlib.Core.Bool.{Bool, not}
 use native.Mathlib.Omega.{arith}
-use borrow.Author.Rules.{rules}
-use borrow.Author.Tests.{eq-eqb, ne_eqb}
+use borrow.Author.Tests.{eq-eqb}
 use lib.ListN.{length}
-use Rattle.basics.specs.Sum.{some}
 use Rattle.basics.proofs.Sums.{some_of}
 use Rattle.game.specs.Tree.{marked}
 use Rattle.answer_forms.specs.Answer.{fault}

@@ -1,4 +1,3 @@
-use borrow.Author.Rules.{rules}
 use borrow.Author.Tests.{eq-eqb, ne_eqb}
 use Rattle.answers.specs.Checks.{plain_check}
 use Rattle.answer_forms.proofs.Composed.{stopped}

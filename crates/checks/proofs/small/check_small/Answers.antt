@@ -1,9 +1,4 @@
-use mathlib.Core.Path.{◌≡◌}
-use lib.ListN.{length}
-use borrow.Author.Rules.{rules}
-use Rattle.limits.specs.Limits.{most_small_arcs}
-use Rattle.answer_forms.specs.Checked.{check_of}
-use Rattle.answers.specs.Checks.{count_check, small_check}
+use Rattle.answers.specs.Checks.{small_check}
 use Rattle.answer_forms.proofs.Composed.{stopped}
 use Rattle.answer_forms.proofs.Opened.{opened}
 use Rattle.checks.proofs.small.check_small.Goals as goal

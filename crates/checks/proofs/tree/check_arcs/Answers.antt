@@ -1,15 +1,8 @@
-use Prim.Native.Nat.{ℕ, suc, ◌+◌, ◌-◌, ◌≤◌}
-use mathlib.Core.Path.{◌≡◌, refl, sym, ap, ◌∙◌}
-use mathlib.Core.Bool.{false}
-use mathlib.Core.List.{List}
+use Prim.Native.Nat.{suc, ◌+◌}
+use mathlib.Core.Path.{◌≡◌, refl}
 use native.Mathlib.Omega.{arith}
-use borrow.Author.Rules.{rules}
-use lib.ListN.{length, get_or}
 use Rattle.answer_forms.specs.Checked.{check_of}
-use Rattle.limits.specs.Limits.{most_arcs}
-use Rattle.game.specs.Tree.{has_child}
-use Rattle.answer_forms.specs.Answer.{Check, accepted, ◌then◌}
-use Rattle.answers.specs.Checks.{one_by_one, arc_check, mark_check}
+use Rattle.answers.specs.Checks.{one_by_one}
 use Rattle.answers.proofs.OneByOne.{step_accepted, step_refused}
 use Rattle.checks.proofs.Arcs.{marked_here}
 use Rattle.checks.proofs.tree.check_arcs.Invariants.{at_arc}
@@ -23,7 +16,9 @@ loop-i-init c =
 
 pub returns-in_default : goal.returns-in_default
 returns-in_default c =
-    let here : let args = c.args in check_of c.check_at-arc.result ≡ at_arc args.parents.now args.costs.now args.marks.now (suc c.loop-i.i) = let at = c.loop-i in
+    let here : let args =
+    c.args in check_of c.check_at-arc.result
+    ≡ at_arc args.parents.now args.costs.now args.marks.now (suc c.loop-i.i) = let at = c.loop-i in
     let args = c.args in
     marked_here args.parents.now args.costs.now at.i args.marks.now _
     (at.invariant.4 (at.i + 1) (omega arith) (omega (arith, at.invariant.1)))
@@ -34,7 +29,9 @@ returns-in_default c =
 
 pub loop-i-preserved : goal.loop-i-preserved
 loop-i-preserved c =
-    let here : let args = c.args in check_of c.check_at-arc.result ≡ at_arc args.parents.now args.costs.now args.marks.now (suc c.loop-i.i) = let at = c.loop-i in
+    let here : let args =
+    c.args in check_of c.check_at-arc.result
+    ≡ at_arc args.parents.now args.costs.now args.marks.now (suc c.loop-i.i) = let at = c.loop-i in
     let args = c.args in
     marked_here args.parents.now args.costs.now at.i args.marks.now _
     (at.invariant.4 (at.i + 1) (omega arith) (omega (arith, at.invariant.1)))

@@ -1,17 +1,12 @@
-use Prim.Native.Nat.{ℕ, suc, ◌+◌, ◌-◌, ◌≤◌}
-use mathlib.Core.Path.{◌≡◌, refl, sym, ap, ◌∙◌}
+use Prim.Native.Nat.{ℕ, ◌-◌, ◌≤◌}
+use mathlib.Core.Path.{◌≡◌}
 use mathlib.Core.Bool.{false}
 use mathlib.Core.List.{List}
-use native.Mathlib.Omega.{arith}
-use borrow.Author.Rules.{rules}
 use lib.ListN.{length, get_or}
-use Rattle.answer_forms.specs.Checked.{check_of}
 use Rattle.limits.specs.Limits.{most_arcs}
 use Rattle.game.specs.Tree.{has_child}
 use Rattle.answer_forms.specs.Answer.{Check, accepted, ◌then◌}
 use Rattle.answers.specs.Checks.{one_by_one, arc_check, mark_check}
-use Rattle.answers.proofs.OneByOne.{step_accepted, step_refused}
-use Rattle.checks.proofs.Arcs.{marked_here}
 use Rattle.checks.proofs.tree.check_arcs.Given as goal
 
 abbrev pub at_arc : List ℕ → List ℕ → List ℕ → ℕ → Check

@@ -1,16 +1,11 @@
 use Prim.Native.Nat.{ℕ}
-use mathlib.Core.Path.{◌≡◌, sym, ap, ◌∙◌}
+use mathlib.Core.Path.{sym, ap, ◌∙◌}
 use mathlib.Core.Bool.{not}
-use lib.ListN.{length}
 use Rattle.basics.specs.Sum.{some}
 use Rattle.game.specs.Tree.{marked}
 use Rattle.answer_forms.specs.Answer.{fault}
-use Rattle.answer_forms.specs.Checked.{check_of}
-use borrow.Author.Rules.{rules}
 use borrow.Author.Tests.{eq-eqb, ne_eqb}
-use Rattle.answers.specs.Checks.{arc_count_check, tree_check}
-use Rattle.limits.specs.Limits.{most_arcs}
-use Rattle.answers.proofs.Accepted.{count_accepted}
+use Rattle.answers.specs.Checks.{tree_check}
 use Rattle.answer_forms.proofs.Composed.{stopped}
 use Rattle.answer_forms.proofs.Opened.{opened}
 use Rattle.checks.proofs.tree.check_tree.Goals as goal

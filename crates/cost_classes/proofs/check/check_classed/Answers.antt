@@ -26,7 +26,8 @@ unfolding classed_check
 returns-in_default-count c =
     let given : Classed = let args = c.args in
     classed_of args.parents.now args.costs.now args.marks.now args.classes in
-    let several_accepted : count_check most_classes 32 (given).classes ≡ accepted = opened c.check_count-several.ensures c.in-Accepted.is in
+    let several_accepted : count_check most_classes 32 (given).classes ≡ accepted =
+    opened c.check_count-several.ensures c.in-Accepted.is in
     went_on (several_accepted) (stopped _ c.check_count-count.ensures c.in_default-count.is)
 
 pub returns-then-costs-classes : goal.returns-then-costs-classes
@@ -34,9 +35,11 @@ unfolding classed_check
 returns-then-costs-classes c =
     let given : Classed = let args = c.args in
     classed_of args.parents.now args.costs.now args.marks.now args.classes in
-    let several_accepted : count_check most_classes 32 (given).classes ≡ accepted = opened c.check_count-several.ensures c.in-Accepted.is in
+    let several_accepted : count_check most_classes 32 (given).classes ≡ accepted =
+    opened c.check_count-several.ensures c.in-Accepted.is in
     let tree : Classed = given in
-    let few_accepted : arc_count_check (tree).parents ≡ accepted = opened c.check_count-count.ensures c.in-Accepted-count.is in
+    let few_accepted : arc_count_check (tree).parents ≡ accepted =
+    opened c.check_count-count.ensures c.in-Accepted-count.is in
     rw (several_accepted, few_accepted, ne_eqb _ _ c.if-costs-classes.true)
     c.refuse.ensures
 
@@ -45,9 +48,11 @@ unfolding classed_check
 returns c =
     let given : Classed = let args = c.args in
     classed_of args.parents.now args.costs.now args.marks.now args.classes in
-    let several_accepted : count_check most_classes 32 (given).classes ≡ accepted = opened c.check_count-several.ensures c.in-Accepted.is in
+    let several_accepted : count_check most_classes 32 (given).classes ≡ accepted =
+    opened c.check_count-several.ensures c.in-Accepted.is in
     let tree : Classed = given in
-    let few_accepted : arc_count_check (tree).parents ≡ accepted = opened c.check_count-count.ensures c.in-Accepted-count.is in
+    let few_accepted : arc_count_check (tree).parents ≡ accepted =
+    opened c.check_count-count.ensures c.in-Accepted-count.is in
     let small : ((tree).classes ≤ most_classes) × (length (tree).parents ≤ most_arcs) = (
       (count_accepted most_classes 32 (tree).classes (several_accepted)).1,
       (count_accepted most_arcs 1 (length (tree).parents) (few_accepted)).1,

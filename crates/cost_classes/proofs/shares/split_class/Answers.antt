@@ -23,14 +23,26 @@ slice_bounds-counted-end c =
     (accepted_sound (tree) c.requires.marks_value).few
 
 pub write_counted-requires : goal.write_counted-requires
-write_counted-requires c = let it = counted_lent _ c.requires.marks_value in record { sound = it.0; costed = it.1.0; marked = it.1.1.0; out_len = it.1.1.1 }
+write_counted-requires c = let it = counted_lent _ c.requires.marks_value in
+record {
+  sound = it.0;
+  costed = it.1.0;
+  marked = it.1.1.0;
+  out_len = it.1.1.1;
+}
 
 pub write_by_arc-requires : goal.write_by_arc-requires
 write_by_arc-requires c =
     let tree : Tree = tree_of c.args.parents.now c.args.costs.now c.args.marks.now in
     let marks : Marked (tree).parents (tree).marks = accepted_marked (tree) c.requires.marks_value in
     let lists = accepted_lists _ c.requires.marks_value c.write_counted.ensures _ in
-    let are = c.requires.vertices_value in record { sound = lists.0; costed = lists.1.0; listed = written_listed _ _ (marks) are; shares_len = c.requires.out_len ∙ sym (written_count _ _ (marks) are) }
+    let are = c.requires.vertices_value in
+    record {
+      sound = lists.0;
+      costed = lists.1.0;
+      listed = written_listed _ _ (marks) are;
+      shares_len = c.requires.out_len ∙ sym (written_count _ _ (marks) are);
+    }
 
 pub total_of-requires : goal.total_of-requires
 total_of-requires c =
@@ -57,4 +69,9 @@ returns c =
     (written_network _ _ (marks) c.requires.vertices_value _
     ∙ ap (λ (cs : List ℕ). network_of (tree).parents cs (tree).marks)
     (counted_part (tree) c.write_counted.ensures _)) in
-    let is = shares in record { paid_value = c.total_of.ensures ∙ ap (total (λ x. x)) is; cost_value = c.whole_cost.ensures ∙ counted_whole (tree) c.write_counted.ensures _; out_after = is }
+    let is = shares in
+    record {
+      paid_value = c.total_of.ensures ∙ ap (total (λ x. x)) is;
+      cost_value = c.whole_cost.ensures ∙ counted_whole (tree) c.write_counted.ensures _;
+      out_after = is;
+    }

@@ -31,64 +31,80 @@ loop-c-init c = (omega arith, refl, rw zero-mul refl, totals_start _ _)
 pub overflow_mul-a : goal.overflow_mul-a
 overflow_mul-a c =
     let given : Classed = classed_of c.args.parents.now c.args.costs.now c.args.marks.now c.args.classes in
-    let WithinLists : ℕ → Type 0 = Fits (given) c.requires.classes_value c.args.vertices.now c.args.out.now c.requires.vertices_value c.requires.out_len in
-    let here : WithinLists c.loop-c.c = fits (given) c.requires.classes_value c.args.vertices.now c.args.out.now c.requires.vertices_value c.requires.out_len
+    let WithinLists : ℕ → Type 0 =
+    Fits (given) c.requires.classes_value c.args.vertices.now c.args.out.now c.requires.vertices_value c.requires.out_len in
+    let here : WithinLists c.loop-c.c =
+    fits (given) c.requires.classes_value c.args.vertices.now c.args.out.now c.requires.vertices_value c.requires.out_len
     c.loop-c.c c.loop-c-test.true in
     omega (arith, here)
 
 pub overflow_mul-j : goal.overflow_mul-j
 overflow_mul-j c =
     let given : Classed = classed_of c.args.parents.now c.args.costs.now c.args.marks.now c.args.classes in
-    let WithinLists : ℕ → Type 0 = Fits (given) c.requires.classes_value c.args.vertices.now c.args.out.now c.requires.vertices_value c.requires.out_len in
-    let here : WithinLists c.loop-c.c = fits (given) c.requires.classes_value c.args.vertices.now c.args.out.now c.requires.vertices_value c.requires.out_len
+    let WithinLists : ℕ → Type 0 =
+    Fits (given) c.requires.classes_value c.args.vertices.now c.args.out.now c.requires.vertices_value c.requires.out_len in
+    let here : WithinLists c.loop-c.c =
+    fits (given) c.requires.classes_value c.args.vertices.now c.args.out.now c.requires.vertices_value c.requires.out_len
     c.loop-c.c c.loop-c-test.true in
     omega (arith, here)
 
 pub overflow_add-a : goal.overflow_add-a
 overflow_add-a c =
     let given : Classed = classed_of c.args.parents.now c.args.costs.now c.args.marks.now c.args.classes in
-    let WithinLists : ℕ → Type 0 = Fits (given) c.requires.classes_value c.args.vertices.now c.args.out.now c.requires.vertices_value c.requires.out_len in
-    let here : WithinLists c.loop-c.c = fits (given) c.requires.classes_value c.args.vertices.now c.args.out.now c.requires.vertices_value c.requires.out_len
+    let WithinLists : ℕ → Type 0 =
+    Fits (given) c.requires.classes_value c.args.vertices.now c.args.out.now c.requires.vertices_value c.requires.out_len in
+    let here : WithinLists c.loop-c.c =
+    fits (given) c.requires.classes_value c.args.vertices.now c.args.out.now c.requires.vertices_value c.requires.out_len
     c.loop-c.c c.loop-c-test.true in
     omega (arith, here)
 
 pub offset_bounds-costs-a : goal.offset_bounds-costs-a
 offset_bounds-costs-a c =
     let given : Classed = classed_of c.args.parents.now c.args.costs.now c.args.marks.now c.args.classes in
-    let WithinLists : ℕ → Type 0 = Fits (given) c.requires.classes_value c.args.vertices.now c.args.out.now c.requires.vertices_value c.requires.out_len in
-    let here : WithinLists c.loop-c.c = fits (given) c.requires.classes_value c.args.vertices.now c.args.out.now c.requires.vertices_value c.requires.out_len
+    let WithinLists : ℕ → Type 0 =
+    Fits (given) c.requires.classes_value c.args.vertices.now c.args.out.now c.requires.vertices_value c.requires.out_len in
+    let here : WithinLists c.loop-c.c =
+    fits (given) c.requires.classes_value c.args.vertices.now c.args.out.now c.requires.vertices_value c.requires.out_len
     c.loop-c.c c.loop-c-test.true in
     omega (arith, here)
 
 pub slice_bounds-split_class-end : goal.slice_bounds-split_class-end
 slice_bounds-split_class-end c =
     let given : Classed = classed_of c.args.parents.now c.args.costs.now c.args.marks.now c.args.classes in
-    let WithinLists : ℕ → Type 0 = Fits (given) c.requires.classes_value c.args.vertices.now c.args.out.now c.requires.vertices_value c.requires.out_len in
-    let here : WithinLists c.loop-c.c = fits (given) c.requires.classes_value c.args.vertices.now c.args.out.now c.requires.vertices_value c.requires.out_len
+    let WithinLists : ℕ → Type 0 =
+    Fits (given) c.requires.classes_value c.args.vertices.now c.args.out.now c.requires.vertices_value c.requires.out_len in
+    let here : WithinLists c.loop-c.c =
+    fits (given) c.requires.classes_value c.args.vertices.now c.args.out.now c.requires.vertices_value c.requires.out_len
     c.loop-c.c c.loop-c-test.true in
     omega (arith, here)
 
 pub overflow_add-j : goal.overflow_add-j
 overflow_add-j c =
     let given : Classed = classed_of c.args.parents.now c.args.costs.now c.args.marks.now c.args.classes in
-    let WithinLists : ℕ → Type 0 = Fits (given) c.requires.classes_value c.args.vertices.now c.args.out.now c.requires.vertices_value c.requires.out_len in
-    let here : WithinLists c.loop-c.c = fits (given) c.requires.classes_value c.args.vertices.now c.args.out.now c.requires.vertices_value c.requires.out_len
+    let WithinLists : ℕ → Type 0 =
+    Fits (given) c.requires.classes_value c.args.vertices.now c.args.out.now c.requires.vertices_value c.requires.out_len in
+    let here : WithinLists c.loop-c.c =
+    fits (given) c.requires.classes_value c.args.vertices.now c.args.out.now c.requires.vertices_value c.requires.out_len
     c.loop-c.c c.loop-c-test.true in
     omega (arith, here, c.loop-c.invariant.1)
 
 pub offset_bounds-out-j : goal.offset_bounds-out-j
 offset_bounds-out-j c =
     let given : Classed = classed_of c.args.parents.now c.args.costs.now c.args.marks.now c.args.classes in
-    let WithinLists : ℕ → Type 0 = Fits (given) c.requires.classes_value c.args.vertices.now c.args.out.now c.requires.vertices_value c.requires.out_len in
-    let here : WithinLists c.loop-c.c = fits (given) c.requires.classes_value c.args.vertices.now c.args.out.now c.requires.vertices_value c.requires.out_len
+    let WithinLists : ℕ → Type 0 =
+    Fits (given) c.requires.classes_value c.args.vertices.now c.args.out.now c.requires.vertices_value c.requires.out_len in
+    let here : WithinLists c.loop-c.c =
+    fits (given) c.requires.classes_value c.args.vertices.now c.args.out.now c.requires.vertices_value c.requires.out_len
     c.loop-c.c c.loop-c-test.true in
     omega (arith, here, c.loop-c.invariant.1)
 
 pub slice_bounds-split_class-end-in-loop-c : goal.slice_bounds-split_class-end-in-loop-c
 slice_bounds-split_class-end-in-loop-c c =
     let given : Classed = classed_of c.args.parents.now c.args.costs.now c.args.marks.now c.args.classes in
-    let WithinLists : ℕ → Type 0 = Fits (given) c.requires.classes_value c.args.vertices.now c.args.out.now c.requires.vertices_value c.requires.out_len in
-    let here : WithinLists c.loop-c.c = fits (given) c.requires.classes_value c.args.vertices.now c.args.out.now c.requires.vertices_value c.requires.out_len
+    let WithinLists : ℕ → Type 0 =
+    Fits (given) c.requires.classes_value c.args.vertices.now c.args.out.now c.requires.vertices_value c.requires.out_len in
+    let here : WithinLists c.loop-c.c =
+    fits (given) c.requires.classes_value c.args.vertices.now c.args.out.now c.requires.vertices_value c.requires.out_len
     c.loop-c.c c.loop-c-test.true in
     omega (arith, here, c.loop-c.invariant.1)
 
@@ -111,48 +127,60 @@ split_class-class-requires c =
 pub offset_bounds-totals-c : goal.offset_bounds-totals-c
 offset_bounds-totals-c c =
     let given : Classed = classed_of c.args.parents.now c.args.costs.now c.args.marks.now c.args.classes in
-    let WithinLists : ℕ → Type 0 = Fits (given) c.requires.classes_value c.args.vertices.now c.args.out.now c.requires.vertices_value c.requires.out_len in
-    let here : WithinLists c.loop-c.c = fits (given) c.requires.classes_value c.args.vertices.now c.args.out.now c.requires.vertices_value c.requires.out_len
+    let WithinLists : ℕ → Type 0 =
+    Fits (given) c.requires.classes_value c.args.vertices.now c.args.out.now c.requires.vertices_value c.requires.out_len in
+    let here : WithinLists c.loop-c.c =
+    fits (given) c.requires.classes_value c.args.vertices.now c.args.out.now c.requires.vertices_value c.requires.out_len
     c.loop-c.c c.loop-c-test.true in
     omega (arith, here)
 
 pub bounds-totals-c : goal.bounds-totals-c
 bounds-totals-c c =
     let given : Classed = classed_of c.args.parents.now c.args.costs.now c.args.marks.now c.args.classes in
-    let WithinLists : ℕ → Type 0 = Fits (given) c.requires.classes_value c.args.vertices.now c.args.out.now c.requires.vertices_value c.requires.out_len in
-    let here : WithinLists c.loop-c.c = fits (given) c.requires.classes_value c.args.vertices.now c.args.out.now c.requires.vertices_value c.requires.out_len
+    let WithinLists : ℕ → Type 0 =
+    Fits (given) c.requires.classes_value c.args.vertices.now c.args.out.now c.requires.vertices_value c.requires.out_len in
+    let here : WithinLists c.loop-c.c =
+    fits (given) c.requires.classes_value c.args.vertices.now c.args.out.now c.requires.vertices_value c.requires.out_len
     c.loop-c.c c.loop-c-test.true in
     omega (arith, here)
 
 pub overflow_add-totals : goal.overflow_add-totals
 overflow_add-totals c =
     let given : Classed = classed_of c.args.parents.now c.args.costs.now c.args.marks.now c.args.classes in
-    let WithinLists : ℕ → Type 0 = Fits (given) c.requires.classes_value c.args.vertices.now c.args.out.now c.requires.vertices_value c.requires.out_len in
-    let here : WithinLists c.loop-c.c = fits (given) c.requires.classes_value c.args.vertices.now c.args.out.now c.requires.vertices_value c.requires.out_len
+    let WithinLists : ℕ → Type 0 =
+    Fits (given) c.requires.classes_value c.args.vertices.now c.args.out.now c.requires.vertices_value c.requires.out_len in
+    let here : WithinLists c.loop-c.c =
+    fits (given) c.requires.classes_value c.args.vertices.now c.args.out.now c.requires.vertices_value c.requires.out_len
     c.loop-c.c c.loop-c-test.true in
     omega (arith, here)
 
 pub offset_bounds-totals-c-in-loop-c : goal.offset_bounds-totals-c-in-loop-c
 offset_bounds-totals-c-in-loop-c c =
     let given : Classed = classed_of c.args.parents.now c.args.costs.now c.args.marks.now c.args.classes in
-    let WithinLists : ℕ → Type 0 = Fits (given) c.requires.classes_value c.args.vertices.now c.args.out.now c.requires.vertices_value c.requires.out_len in
-    let here : WithinLists c.loop-c.c = fits (given) c.requires.classes_value c.args.vertices.now c.args.out.now c.requires.vertices_value c.requires.out_len
+    let WithinLists : ℕ → Type 0 =
+    Fits (given) c.requires.classes_value c.args.vertices.now c.args.out.now c.requires.vertices_value c.requires.out_len in
+    let here : WithinLists c.loop-c.c =
+    fits (given) c.requires.classes_value c.args.vertices.now c.args.out.now c.requires.vertices_value c.requires.out_len
     c.loop-c.c c.loop-c-test.true in
     omega (arith, here)
 
 pub bounds-totals-c-in-loop-c : goal.bounds-totals-c-in-loop-c
 bounds-totals-c-in-loop-c c =
     let given : Classed = classed_of c.args.parents.now c.args.costs.now c.args.marks.now c.args.classes in
-    let WithinLists : ℕ → Type 0 = Fits (given) c.requires.classes_value c.args.vertices.now c.args.out.now c.requires.vertices_value c.requires.out_len in
-    let here : WithinLists c.loop-c.c = fits (given) c.requires.classes_value c.args.vertices.now c.args.out.now c.requires.vertices_value c.requires.out_len
+    let WithinLists : ℕ → Type 0 =
+    Fits (given) c.requires.classes_value c.args.vertices.now c.args.out.now c.requires.vertices_value c.requires.out_len in
+    let here : WithinLists c.loop-c.c =
+    fits (given) c.requires.classes_value c.args.vertices.now c.args.out.now c.requires.vertices_value c.requires.out_len
     c.loop-c.c c.loop-c-test.true in
     omega (arith, here)
 
 pub loop-c-preserved : goal.loop-c-preserved
 loop-c-preserved c =
     let given : Classed = classed_of c.args.parents.now c.args.costs.now c.args.marks.now c.args.classes in
-    let WithinLists : ℕ → Type 0 = Fits (given) c.requires.classes_value c.args.vertices.now c.args.out.now c.requires.vertices_value c.requires.out_len in
-    let here : WithinLists c.loop-c.c = fits (given) c.requires.classes_value c.args.vertices.now c.args.out.now c.requires.vertices_value c.requires.out_len
+    let WithinLists : ℕ → Type 0 =
+    Fits (given) c.requires.classes_value c.args.vertices.now c.args.out.now c.requires.vertices_value c.requires.out_len in
+    let here : WithinLists c.loop-c.c =
+    fits (given) c.requires.classes_value c.args.vertices.now c.args.out.now c.requires.vertices_value c.requires.out_len
     c.loop-c.c c.loop-c-test.true in
     let at = c.loop-c in
     let w = given in
@@ -179,7 +207,10 @@ returns c =
     let at = c.loop-c in
     let vs = c.args.vertices.now in
     let end : at.c ≡ w.classes = omega arith in
-    let long = at.invariant.1 ∙ all_shares w c.requires.classes_value vs c.args.out.now c.requires.vertices_value c.requires.out_len in record {
+    let long =
+    at.invariant.1
+    ∙ all_shares w c.requires.classes_value vs c.args.out.now c.requires.vertices_value c.requires.out_len in
+    record {
       result_value = at.invariant.3 ∙ ap (totals_to (paid_in w) (cost_in w)) end;
       out_after = sym (take_all (at.c * length vs) at.out (omega (arith, long, ap (λ (k : ℕ). k * length vs) end)))
           ∙ at.invariant.2

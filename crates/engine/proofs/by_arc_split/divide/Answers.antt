@@ -8,7 +8,13 @@ pub write_by_arc-requires : goal.write_by_arc-requires
 write_by_arc-requires c =
     let pre = c.requires in
     let marks = pre.marked in
-    let is = c.write_members.ensures in record { sound = pre.sound; costed = pre.costed; listed = written_listed _ _ marks is; shares_len = pre.out_len ∙ sym (written_count _ _ marks is) }
+    let is = c.write_members.ensures in
+    record {
+      sound = pre.sound;
+      costed = pre.costed;
+      listed = written_listed _ _ marks is;
+      shares_len = pre.out_len ∙ sym (written_count _ _ marks is);
+    }
 
 pub returns : goal.returns
 returns c =

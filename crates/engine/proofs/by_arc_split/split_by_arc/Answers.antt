@@ -28,14 +28,16 @@ write_counted-requires c =
     let tree : Tree = let given = c.args in
     tree_of given.parents.now given.costs.now given.marks.now in
     let accepted_tree : tree_check (tree) ≡ accepted = opened c.check_tree-tree.ensures c.in-Accepted.is in
-    let it = counted_lent _ (accepted_tree) in record { sound = it.0; costed = it.1.0; marked = it.1.1.0; out_len = it.1.1.1 }
+    let it = counted_lent _ (accepted_tree) in
+    record { sound = it.0; costed = it.1.0; marked = it.1.1.0; out_len = it.1.1.1 }
 
 pub split_in_tree-requires : goal.split_in_tree-requires
 split_in_tree-requires c =
     let tree : Tree = let given = c.args in
     tree_of given.parents.now given.costs.now given.marks.now in
     let accepted_tree : tree_check (tree) ≡ accepted = opened c.check_tree-tree.ensures c.in-Accepted.is in
-    let it = accepted_lists _ (accepted_tree) c.write_counted.ensures _ in record { sound = it.0; costed = it.1.0; marked = it.1.1 }
+    let it = accepted_lists _ (accepted_tree) c.write_counted.ensures _ in
+    record { sound = it.0; costed = it.1.0; marked = it.1.1 }
 
 pub returns : goal.returns
 unfolding by_arc_answer by_arc_list

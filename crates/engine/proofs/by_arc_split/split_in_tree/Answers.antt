@@ -18,6 +18,8 @@ use Rattle.engine.proofs.by_arc_split.split_in_tree.Goals as goal
 pub slice_bounds-vertices-end : goal.slice_bounds-vertices-end
 slice_bounds-vertices-end c =
     let members : ℕ = member_count (network_of c.args.parents.now c.args.costs.now c.args.marks.now) in
-    let counted : c.count_members-members.result ≡ members = c.count_members-members.ensures ∙ marks_count _ _ c.requires.marked in
-    let few : c.count_members-members.result ≤ most_arcs = omega (arith, counted, members_few _ c.args.marks.now c.requires.sound) in
+    let counted : c.count_members-members.result ≡ members =
+    c.count_members-members.ensures ∙ marks_count _ _ c.requires.marked in
+    let few : c.count_members-members.result ≤ most_arcs =
+    omega (arith, counted, members_few _ c.args.marks.now c.requires.sound) in
     omega (arith, few)

@@ -15,10 +15,18 @@ write_cap_sums-requires c =
     let marks = pre.marked in
     let is = c.write_members.ensures in
     let caps = caps_accepted _ _ pre.caps_value in
-    record { sound = pre.sound; listed = written_listed _ _ marks is; capped = rw (written_count _ _ marks is) caps; out_len = pre.out_len }
+    record {
+      sound = pre.sound;
+      listed = written_listed _ _ marks is;
+      capped = rw (written_count _ _ marks is) caps;
+      out_len = pre.out_len;
+    }
 
 pub returns : goal.returns
 returns c =
     let sums = c.write_cap_sums.ensures in
     let same = written_network _ _ c.requires.marked c.write_members.ensures [] in
-    record { result_value = ap value sums.value; out_after = sums.out_after ∙ ap (λ (n : Network). list n.arcs (cap_sum n c.args.caps.now)) same }
+    record {
+      result_value = ap value sums.value;
+      out_after = sums.out_after ∙ ap (λ (n : Network). list n.arcs (cap_sum n c.args.caps.now)) same;
+    }

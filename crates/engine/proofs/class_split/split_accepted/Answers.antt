@@ -14,4 +14,7 @@ write_members-requires c =
     let given : Classed = classed_of c.args.parents.now c.args.costs.now c.args.marks.now c.args.classes in
     let tree_ok : tree_check (summed_tree (given)) ≡ accepted = summed_accepted (given) c.requires.classes_value in
     let marks : Marked (given).parents (given).marks = accepted_marked (summed_tree (given)) (tree_ok) in
-    record { marks_len_bound = rw (marks).sized (accepted_sound (summed_tree (given)) (tree_ok)).few; out_len = c.requires.vertices_len ∙ sym (marks_count _ _ (marks)) }
+    record {
+      marks_len_bound = rw (marks).sized (accepted_sound (summed_tree (given)) (tree_ok)).few;
+      out_len = c.requires.vertices_len ∙ sym (marks_count _ _ (marks));
+    }

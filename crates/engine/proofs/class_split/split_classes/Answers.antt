@@ -24,7 +24,11 @@ returns-in_default c =
     let away = turned_away c.check_classed-classed.ensures c.in_default.is
     c.refusal_of.ensures in
     let found = c.without_totals.ensures in
-    record { answer_value = rw (found.answer_value, away); totals_value = rw away found.totals_value; out_after = rw away }
+    record {
+      answer_value = rw (found.answer_value, away);
+      totals_value = rw away found.totals_value;
+      out_after = rw away;
+    }
 
 pub overflow_mul-classes : goal.overflow_mul-classes
 overflow_mul-classes c =
@@ -33,7 +37,8 @@ overflow_mul-classes c =
     let tree : Classed = given in
     let classed_ok : classed_check (tree) ≡ accepted = opened c.check_classed-classed.ensures c.in-Accepted.is in
     let summed_ok : tree_check (summed_tree (tree)) ≡ accepted = summed_accepted (tree) (classed_ok) in
-    let counted : c.count_members-members.result ≡ class_members (tree) = c.count_members-members.ensures ∙ accepted_count (summed_tree (tree)) (summed_ok) in
+    let counted : c.count_members-members.result ≡ class_members (tree) =
+    c.count_members-members.ensures ∙ accepted_count (summed_tree (tree)) (summed_ok) in
     let few : c.count_members-members.result ≤ most_arcs = let w = tree in
     omega (
       arith,
@@ -51,7 +56,8 @@ returns-in_default-output c =
     let classed_ok : classed_check (tree) ≡ accepted = opened c.check_classed-classed.ensures c.in-Accepted.is in
     let places : ℕ = length c.args.out.now in
     let summed_ok : tree_check (summed_tree (tree)) ≡ accepted = summed_accepted (tree) (classed_ok) in
-    let counted : c.count_members-members.result ≡ class_members (tree) = c.count_members-members.ensures ∙ accepted_count (summed_tree (tree)) (summed_ok) in
+    let counted : c.count_members-members.result ≡ class_members (tree) =
+    c.count_members-members.ensures ∙ accepted_count (summed_tree (tree)) (summed_ok) in
     let wanted : ℕ = (tree).classes * class_members (tree) in
     let output : check_of c.check_output-output.result ≡ length_check (wanted) (places) = c.check_output-output.ensures
     ∙ ap (λ (k : ℕ). length_check ((tree).classes * k) (places))
@@ -59,7 +65,11 @@ returns-in_default-output c =
     let ok = classed_ok in
     let away = turned_away (output) c.in_default-output.is c.refusal_of-in_default-output.ensures in
     let found = c.without_totals-in_default-output.ensures in
-    record { answer_value = rw (found.answer_value, ok, away); totals_value = rw (ok, away) found.totals_value; out_after = rw (ok, away) }
+    record {
+      answer_value = rw (found.answer_value, ok, away);
+      totals_value = rw (ok, away) found.totals_value;
+      out_after = rw (ok, away);
+    }
 
 pub slice_bounds-vertices-end : goal.slice_bounds-vertices-end
 slice_bounds-vertices-end c =
@@ -68,7 +78,8 @@ slice_bounds-vertices-end c =
     let tree : Classed = given in
     let classed_ok : classed_check (tree) ≡ accepted = opened c.check_classed-classed.ensures c.in-Accepted.is in
     let summed_ok : tree_check (summed_tree (tree)) ≡ accepted = summed_accepted (tree) (classed_ok) in
-    let counted : c.count_members-members.result ≡ class_members (tree) = c.count_members-members.ensures ∙ accepted_count (summed_tree (tree)) (summed_ok) in
+    let counted : c.count_members-members.result ≡ class_members (tree) =
+    c.count_members-members.ensures ∙ accepted_count (summed_tree (tree)) (summed_ok) in
     let few : c.count_members-members.result ≤ most_arcs = let w = tree in
     omega (
       arith,
@@ -84,7 +95,8 @@ split_accepted-requires c =
     let tree : Classed = given in
     let classed_ok : classed_check (tree) ≡ accepted = opened c.check_classed-classed.ensures c.in-Accepted.is in
     let summed_ok : tree_check (summed_tree (tree)) ≡ accepted = summed_accepted (tree) (classed_ok) in
-    let counted : c.count_members-members.result ≡ class_members (tree) = c.count_members-members.ensures ∙ accepted_count (summed_tree (tree)) (summed_ok) in
+    let counted : c.count_members-members.result ≡ class_members (tree) =
+    c.count_members-members.ensures ∙ accepted_count (summed_tree (tree)) (summed_ok) in
     let few : c.count_members-members.result ≤ most_arcs = let w = tree in
     omega (
       arith,
@@ -97,7 +109,11 @@ split_accepted-requires c =
     ∙ ap (λ (k : ℕ). length_check ((tree).classes * k) (places))
     (counted) in
     let output_ok : length_check (wanted) (places) ≡ accepted = opened (output) c.in-Accepted-output.is in
-    record { classes_value = classed_ok; vertices_len = zeros_length most_arcs c.count_members-members.result (few) ∙ counted; out_len = length_accepted _ _ (output_ok) }
+    record {
+      classes_value = classed_ok;
+      vertices_len = zeros_length most_arcs c.count_members-members.result (few) ∙ counted;
+      out_len = length_accepted _ _ (output_ok);
+    }
 
 pub returns : goal.returns
 unfolding classes_answer classes_totals classes_list
@@ -108,7 +124,8 @@ returns c =
     let classed_ok : classed_check (tree) ≡ accepted = opened c.check_classed-classed.ensures c.in-Accepted.is in
     let places : ℕ = length c.args.out.now in
     let summed_ok : tree_check (summed_tree (tree)) ≡ accepted = summed_accepted (tree) (classed_ok) in
-    let counted : c.count_members-members.result ≡ class_members (tree) = c.count_members-members.ensures ∙ accepted_count (summed_tree (tree)) (summed_ok) in
+    let counted : c.count_members-members.result ≡ class_members (tree) =
+    c.count_members-members.ensures ∙ accepted_count (summed_tree (tree)) (summed_ok) in
     let wanted : ℕ = (tree).classes * class_members (tree) in
     let output : check_of c.check_output-output.result ≡ length_check (wanted) (places) = c.check_output-output.ensures
     ∙ ap (λ (k : ℕ). length_check ((tree).classes * k) (places))
@@ -117,4 +134,8 @@ returns c =
     let ok = classed_ok in
     let list = output_ok in
     let found = c.split_accepted.ensures in
-    record { answer_value = rw (ok, list) found.answer_value; totals_value = rw (ok, list) found.totals_value; out_after = rw (ok, list) found.out_after }
+    record {
+      answer_value = rw (ok, list) found.answer_value;
+      totals_value = rw (ok, list) found.totals_value;
+      out_after = rw (ok, list) found.out_after;
+    }

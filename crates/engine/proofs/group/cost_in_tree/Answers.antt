@@ -15,8 +15,10 @@ use Rattle.engine.proofs.group.cost_in_tree.Goals as goal
 pub returns : goal.returns
 returns c =
     let members : ℕ = member_count (network_of c.args.parents.now c.args.costs.now c.args.marks.now) in
-    let counted : c.count_members-members.result ≡ members = c.count_members-members.ensures ∙ marks_count _ _ c.requires.marked in
-    let group : check_of c.check_group-bits.result ≡ group_check (members) c.args.group = c.check_group-bits.ensures ∙ ap (λ (n : ℕ). group_check n c.args.group) (counted) in
+    let counted : c.count_members-members.result ≡ members =
+    c.count_members-members.ensures ∙ marks_count _ _ c.requires.marked in
+    let group : check_of c.check_group-bits.result ≡ group_check (members) c.args.group =
+    c.check_group-bits.ensures ∙ ap (λ (n : ℕ). group_check n c.args.group) (counted) in
     let accepted_group : group_check (members) c.args.group ≡ accepted = opened (group) c.in-Accepted.is in
     let few = members_few _ c.args.marks.now c.requires.sound in
     let group = accepted_group in

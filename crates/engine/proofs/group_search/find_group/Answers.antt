@@ -55,7 +55,12 @@ search_in_tree-requires c =
     let ok : audit_check (tree) (shares) ≡ accepted = opened c.check_proposed-checked.ensures c.in-Accepted.is in
     let tree_ok : tree_check (tree) ≡ accepted = tree_taken (tree) (shares) (ok) in
     let lists = accepted_lists _ (tree_ok) c.write_counted.ensures _ in
-    record { sound = lists.0; costed = lists.1.0; marked = lists.1.1; proposal_value = shares_taken (tree) (shares) (ok) }
+    record {
+      sound = lists.0;
+      costed = lists.1.0;
+      marked = lists.1.1;
+      proposal_value = shares_taken (tree) (shares) (ok);
+    }
 
 pub returns : goal.returns
 returns c =
@@ -64,4 +69,5 @@ returns c =
     let ok : audit_check (tree) (shares) ≡ accepted = opened c.check_proposed-checked.ensures c.in-Accepted.is in
     let part = counted_part (tree) c.write_counted.ensures in
     let inner = c.search_in_tree.ensures in
-    let it = answered (tree) (shares) (ok) (rw part at inner.answer_value) (rw part at inner.group_value) in record { answer_value = it.0; group_value = it.1 }
+    let it = answered (tree) (shares) (ok) (rw part at inner.answer_value) (rw part at inner.group_value) in
+    record { answer_value = it.0; group_value = it.1 }

@@ -18,7 +18,8 @@ pub returns : goal.returns
 returns c =
     let found = c.search-found.ensures in
     let few = members_few _ c.args.marks.now c.requires.sound in
-    let counted = c.size_of-size.ensures ∙ ap (λ (w : List ℕ). size 1024 (bit w)) found.group_value ∙ named_size _ _ few in
+    let counted =
+    c.size_of-size.ensures ∙ ap (λ (w : List ℕ). size 1024 (bit w)) found.group_value ∙ named_size _ _ few in
     let amount = c.search-found.result.amount in
     let some : ltb 0 amount ≡ true = lt-ltb 0 amount (omega arith) in
     record { answer_value = ap value (rw (found.shares_value, some, counted)); group_value = found.group_value }

@@ -16,18 +16,28 @@ use Rattle.engine.proofs.level_split.split_accepted.Goals as goal
 pub write_level-stop-requires : goal.write_level-stop-requires
 write_level-stop-requires c =
     let net : Network = network_of c.args.parents.now c.args.costs.now c.args.marks.now in
-    let one_a_member : length c.write_members.new.out ≡ member_count (net) = written_count _ _ c.requires.marked c.write_members.ensures in
-    let limited : (l : List ℕ) → caps_check (member_count (net)) l ≡ accepted → Capped (length c.write_members.new.out) l = λ l e. rw (one_a_member) (caps_accepted _ _ e) in
+    let one_a_member : length c.write_members.new.out ≡ member_count (net) =
+    written_count _ _ c.requires.marked c.write_members.ensures in
+    let limited : (l : List ℕ) → caps_check (member_count (net)) l ≡ accepted → Capped (length c.write_members.new.out) l =
+    λ l e. rw (one_a_member) (caps_accepted _ _ e) in
     let pre = c.requires in
     let rest = pre in
     let listing = written_listed _ _ pre.marked c.write_members.ensures in
     let places = rest.out_len ∙ sym (one_a_member) in
-    record { sound = pre.sound; costed = pre.costed; listed = listing; capped = limited _ rest.caps_value; capped_2 = limited _ rest.floors_value; shares_len = places }
+    record {
+      sound = pre.sound;
+      costed = pre.costed;
+      listed = listing;
+      capped = limited _ rest.caps_value;
+      capped_2 = limited _ rest.floors_value;
+      shares_len = places;
+    }
 
 pub returns : goal.returns
 returns c =
     let net : Network = network_of c.args.parents.now c.args.costs.now c.args.marks.now in
-    let one_a_member : length c.write_members.new.out ≡ member_count (net) = written_count _ _ c.requires.marked c.write_members.ensures in
+    let one_a_member : length c.write_members.new.out ≡ member_count (net) =
+    written_count _ _ c.requires.marked c.write_members.ensures in
     let net_at : Network = network_at c.args.parents.now c.args.costs.now c.write_members.new.out in
     let same_net : net_at ≡ net = written_network _ _ c.requires.marked c.write_members.ensures c.args.costs.now in
     let caps = c.args.caps.now in

@@ -27,13 +27,15 @@ pub write_counted-requires : goal.write_counted-requires
 write_counted-requires c =
     let tree : Tree = tree_of c.args.parents.now c.args.costs.now c.args.marks.now in
     let accepted_tree : tree_check (tree) ≡ accepted = opened c.check_tree-tree.ensures c.in-Accepted.is in
-    let it = counted_lent _ (accepted_tree) in record { sound = it.0; costed = it.1.0; marked = it.1.1.0; out_len = it.1.1.1 }
+    let it = counted_lent _ (accepted_tree) in
+    record { sound = it.0; costed = it.1.0; marked = it.1.1.0; out_len = it.1.1.1 }
 
 pub split_in_tree-requires : goal.split_in_tree-requires
 split_in_tree-requires c =
     let tree : Tree = tree_of c.args.parents.now c.args.costs.now c.args.marks.now in
     let accepted_tree : tree_check (tree) ≡ accepted = opened c.check_tree-tree.ensures c.in-Accepted.is in
-    let it = accepted_lists _ (accepted_tree) c.write_counted.ensures _ in record { sound = it.0; costed = it.1.0; marked = it.1.1 }
+    let it = accepted_lists _ (accepted_tree) c.write_counted.ensures _ in
+    record { sound = it.0; costed = it.1.0; marked = it.1.1 }
 
 pub returns : goal.returns
 returns c =
@@ -42,4 +44,8 @@ returns c =
     let part = counted_part (tree) c.write_counted.ensures in
     let inner = c.split_in_tree.ensures in
     let it = tree_taken (tree) c.args.caps.now c.args.floors.now c.args.out.now
-    (accepted_tree) (rw part at inner.result_value) (rw part at inner.out_after) in record { result_value = it.0; out_after = it.1 }
+    (accepted_tree) (rw part at inner.result_value) (rw part at inner.out_after) in
+    record {
+      result_value = it.0;
+      out_after = it.1;
+    }

@@ -12,7 +12,15 @@ write_margin-requires c =
     let rest = c.requires in
     let is = c.write_members.ensures in
     let same = written_network _ _ rest.marked is c.args.costs.now in
-    let as_many = written_count _ _ rest.marked is in record { sound = c.requires.sound; costed = c.requires.costed; listed = written_listed _ _ rest.marked is; branched = subst (λ (n : Network). Branched n c.args.arc) (sym same) rest.branched; vertices_nonzero = omega (arith, as_many, rest.bound); shares_len = rest.out_len ∙ sym as_many }
+    let as_many = written_count _ _ rest.marked is in
+    record {
+      sound = c.requires.sound;
+      costed = c.requires.costed;
+      listed = written_listed _ _ rest.marked is;
+      branched = subst (λ (n : Network). Branched n c.args.arc) (sym same) rest.branched;
+      vertices_nonzero = omega (arith, as_many, rest.bound);
+      shares_len = rest.out_len ∙ sym as_many;
+    }
 
 pub returns : goal.returns
 returns c =
@@ -20,4 +28,7 @@ returns c =
     let same = written_network _ _ c.requires.marked c.write_members.ensures c.args.costs.now in
     let is = found.value ∙ ap (λ (n : Network). widest n c.args.arc) same in
     let at = c.write_margin.result in
-    record { value = is; out_after = found.shares_after ∙ ap (λ (n : Network). shares_at n at) same ∙ ap (shares_at _) is }
+    record {
+      value = is;
+      out_after = found.shares_after ∙ ap (λ (n : Network). shares_at n at) same ∙ ap (shares_at _) is;
+    }

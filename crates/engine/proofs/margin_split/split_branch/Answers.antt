@@ -22,17 +22,30 @@ use Rattle.engine.proofs.margin_split.split_branch.Goals as goal
 pub split_accepted-requires : goal.split_accepted-requires
 split_accepted-requires c =
     let tree : Tree = tree_of c.args.parents.now c.args.costs.now c.args.marks.now in
-    let BranchedAt : List ℕ → Type 0 = λ costs. Branched (network_of c.args.parents.now costs c.args.marks.now) c.args.arc in
+    let BranchedAt : List ℕ → Type 0 =
+    λ costs. Branched (network_of c.args.parents.now costs c.args.marks.now) c.args.arc in
     let members : ℕ = member_count (network (tree)) in
     let several : ℕ → Check = λ k. fault (ltb k 2) 26 c.args.arc in
-    let counted : c.count_members-users.result ≡ members = c.count_members-users.ensures ∙ marks_count _ _ c.requires.marked in
-    let users_found : check_of c.check_branch_users-several.result ≡ several (members) = c.check_branch_users-several.ensures ∙ ap (several) (counted) in
+    let counted : c.count_members-users.result ≡ members =
+    c.count_members-users.ensures ∙ marks_count _ _ c.requires.marked in
+    let users_found : check_of c.check_branch_users-several.result ≡ several (members) =
+    c.check_branch_users-several.ensures ∙ ap (several) (counted) in
     let several_accepted : several (members) ≡ accepted = opened (users_found) c.in-Accepted.is in
     let output : ℕ → Check = λ k. length_check k (length c.args.out.now) in
-    let output_found : check_of c.check_output-output.result ≡ output (members) = c.check_output-output.ensures ∙ ap (output) (counted) in
+    let output_found : check_of c.check_output-output.result ≡ output (members) =
+    c.check_output-output.ensures ∙ ap (output) (counted) in
     let output_accepted : output (members) ≡ accepted = opened (output_found) c.in-Accepted-output.is in
     let are = c.write_counted.ensures in
     let lists = sound_lists (tree) c.requires.sound c.requires.costed c.requires.marked are _ in
     let whole = subst (BranchedAt) (sym (counted_part (tree) are _)) c.requires.branched in
     let two = ltb-false (members) 2 (no_fault (ltb (members) 2) 26 c.args.arc (several_accepted)) in
-    let places = length_accepted _ _ (output_accepted) in record { sound = lists.0; costed = lists.1.0; marked = lists.1.1; branched = whole; bound = omega (arith, two); users_value = counted; out_len = places }
+    let places = length_accepted _ _ (output_accepted) in
+    record {
+      sound = lists.0;
+      costed = lists.1.0;
+      marked = lists.1.1;
+      branched = whole;
+      bound = omega (arith, two);
+      users_value = counted;
+      out_len = places;
+    }

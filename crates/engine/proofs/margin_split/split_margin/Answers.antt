@@ -46,30 +46,50 @@ pub write_branch_marks-requires : goal.write_branch_marks-requires
 write_branch_marks-requires c =
     let tree : Tree = tree_of c.args.parents.now c.args.costs.now c.args.marks.now in
     let accepted_tree : tree_check (tree) ≡ accepted = opened c.check_tree-tree.ensures c.in-Accepted.is in
-    let leaves : leaves_source c.args.parents.now c.args.arc ≡ true = let from = leaves_source c.args.parents.now c.args.arc in
+    let leaves : leaves_source c.args.parents.now c.args.arc ≡ true =
+    let from = leaves_source c.args.parents.now c.args.arc in
     let found = opened c.check_branch_arc-leaves.ensures c.in-Accepted-leaves.is in
     not-false from (no_fault (not from) 25 c.args.arc found) in
     let ok = accepted_tree in
-    let sound = accepted_sound _ ok in record { sound = sound; marks_len = (accepted_marked _ ok).sized; fact = (leaves_accepted c.args.parents.now c.args.arc (leaves)).0; out_len = zeros_length most_arcs _ sound.few }
+    let sound = accepted_sound _ ok in
+    record {
+      sound = sound;
+      marks_len = (accepted_marked _ ok).sized;
+      fact = (leaves_accepted c.args.parents.now c.args.arc (leaves)).0;
+      out_len = zeros_length most_arcs _ sound.few;
+    }
 
 pub split_branch-requires : goal.split_branch-requires
 split_branch-requires c =
     let tree : Tree = tree_of c.args.parents.now c.args.costs.now c.args.marks.now in
     let accepted_tree : tree_check (tree) ≡ accepted = opened c.check_tree-tree.ensures c.in-Accepted.is in
-    let BranchedAt : List ℕ → Type 0 = λ marks. Branched (network (tree_of c.args.parents.now c.args.costs.now marks)) c.args.arc in
-    let leaves : leaves_source c.args.parents.now c.args.arc ≡ true = let from = leaves_source c.args.parents.now c.args.arc in
+    let BranchedAt : List ℕ → Type 0 =
+    λ marks. Branched (network (tree_of c.args.parents.now c.args.costs.now marks)) c.args.arc in
+    let leaves : leaves_source c.args.parents.now c.args.arc ≡ true =
+    let from = leaves_source c.args.parents.now c.args.arc in
     let found = opened c.check_branch_arc-leaves.ensures c.in-Accepted-leaves.is in
     not-false from (no_fault (not from) 25 c.args.arc found) in
     let ok = accepted_tree in
-    let same = sym (marks_part (tree) ok c.args.arc c.write_branch_marks.ensures _) in record { sound = accepted_sound _ ok; costed = accepted_costed _ ok; marked = subst (Marked c.args.parents.now) same (branch_marked (tree) ok c.args.arc); branched = subst (BranchedAt) same (branch_whole (tree) c.args.arc ok (leaves)) }
+    let same = sym (marks_part (tree) ok c.args.arc c.write_branch_marks.ensures _) in
+    record {
+      sound = accepted_sound _ ok;
+      costed = accepted_costed _ ok;
+      marked = subst (Marked c.args.parents.now) same (branch_marked (tree) ok c.args.arc);
+      branched = subst (BranchedAt) same (branch_whole (tree) c.args.arc ok (leaves));
+    }
 
 pub returns : goal.returns
 returns c =
     let tree : Tree = tree_of c.args.parents.now c.args.costs.now c.args.marks.now in
     let accepted_tree : tree_check (tree) ≡ accepted = opened c.check_tree-tree.ensures c.in-Accepted.is in
-    let leaves : leaves_source c.args.parents.now c.args.arc ≡ true = let from = leaves_source c.args.parents.now c.args.arc in
+    let leaves : leaves_source c.args.parents.now c.args.arc ≡ true =
+    let from = leaves_source c.args.parents.now c.args.arc in
     let found = opened c.check_branch_arc-leaves.ensures c.in-Accepted-leaves.is in
     not-false from (no_fault (not from) 25 c.args.arc found) in
     let ok = accepted_tree in
     let same = marks_part (tree) ok c.args.arc c.write_branch_marks.ensures in
-    let inner = c.split_branch.ensures in record { result_value = branch_answer (tree) ok c.args.arc (leaves) c.args.out.now (rw same at inner.result_value); out_after = branch_list (tree) ok c.args.arc (leaves) c.args.out.now (rw same at inner.out_after) }
+    let inner = c.split_branch.ensures in
+    record {
+      result_value = branch_answer (tree) ok c.args.arc (leaves) c.args.out.now (rw same at inner.result_value);
+      out_after = branch_list (tree) ok c.args.arc (leaves) c.args.out.now (rw same at inner.out_after);
+    }

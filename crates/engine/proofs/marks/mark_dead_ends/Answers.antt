@@ -25,7 +25,8 @@ returns-in_default c =
 pub returns-in_default-output : goal.returns-in_default-output
 unfolding dead_ends_answer dead_ends_list
 returns-in_default-output c =
-    let accepted_lists : plain_check c.args.parents.now c.args.costs.now ≡ accepted = opened c.check_plain-lists.ensures c.in-Accepted.is in
+    let accepted_lists : plain_check c.args.parents.now c.args.costs.now ≡ accepted =
+    opened c.check_plain-lists.ensures c.in-Accepted.is in
     let lists = accepted_lists in
     let away = turned_away c.check_output-output.ensures c.in_default-output.is
     c.refusal_of-in_default-output.ensures in
@@ -33,13 +34,19 @@ returns-in_default-output c =
 
 pub write_dead_ends-requires : goal.write_dead_ends-requires
 write_dead_ends-requires c =
-    let accepted_lists : plain_check c.args.parents.now c.args.costs.now ≡ accepted = opened c.check_plain-lists.ensures c.in-Accepted.is in
-    let lists = accepted_lists in record { parents_len_bound = plain_few _ _ lists; out_len = length_accepted _ _ (opened c.check_output-output.ensures c.in-Accepted-output.is) }
+    let accepted_lists : plain_check c.args.parents.now c.args.costs.now ≡ accepted =
+    opened c.check_plain-lists.ensures c.in-Accepted.is in
+    let lists = accepted_lists in
+    record {
+      parents_len_bound = plain_few _ _ lists;
+      out_len = length_accepted _ _ (opened c.check_output-output.ensures c.in-Accepted-output.is);
+    }
 
 pub returns : goal.returns
 unfolding dead_ends_answer dead_ends_list
 returns c =
-    let accepted_lists : plain_check c.args.parents.now c.args.costs.now ≡ accepted = opened c.check_plain-lists.ensures c.in-Accepted.is in
+    let accepted_lists : plain_check c.args.parents.now c.args.costs.now ≡ accepted =
+    opened c.check_plain-lists.ensures c.in-Accepted.is in
     let lists = accepted_lists in
     let out = opened c.check_output-output.ensures c.in-Accepted-output.is in
     let ends = c.write_dead_ends.ensures in

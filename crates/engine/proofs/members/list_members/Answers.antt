@@ -28,8 +28,10 @@ returns-in_default-output c =
     let tree : Tree = tree_of c.args.parents.now c.args.costs.now c.args.marks.now in
     let accepted_tree : tree_check (tree) ≡ accepted = opened c.check_tree-tree.ensures c.in-Accepted.is in
     let net : Network = network (tree) in
-    let counted : c.count_members-n.result ≡ member_count (net) = c.count_members-n.ensures ∙ accepted_count _ (accepted_tree) in
-    let output : check_of c.check_output-output.result ≡ length_check (member_count (net)) (length c.args.out.now) = c.check_output-output.ensures
+    let counted : c.count_members-n.result ≡ member_count (net) =
+    c.count_members-n.ensures ∙ accepted_count _ (accepted_tree) in
+    let output : check_of c.check_output-output.result ≡ length_check (member_count (net)) (length c.args.out.now) =
+    c.check_output-output.ensures
     ∙ ap (λ (n : ℕ). length_check n (length c.args.out.now)) (counted) in
     let tree = accepted_tree in
     let away = turned_away (output) c.in_default-output.is
@@ -41,11 +43,18 @@ write_members-requires c =
     let tree : Tree = tree_of c.args.parents.now c.args.costs.now c.args.marks.now in
     let accepted_tree : tree_check (tree) ≡ accepted = opened c.check_tree-tree.ensures c.in-Accepted.is in
     let net : Network = network (tree) in
-    let counted : c.count_members-n.result ≡ member_count (net) = c.count_members-n.ensures ∙ accepted_count _ (accepted_tree) in
-    let output : check_of c.check_output-output.result ≡ length_check (member_count (net)) (length c.args.out.now) = c.check_output-output.ensures
+    let counted : c.count_members-n.result ≡ member_count (net) =
+    c.count_members-n.ensures ∙ accepted_count _ (accepted_tree) in
+    let output : check_of c.check_output-output.result ≡ length_check (member_count (net)) (length c.args.out.now) =
+    c.check_output-output.ensures
     ∙ ap (λ (n : ℕ). length_check n (length c.args.out.now)) (counted) in
-    let accepted_output : length_check (member_count (net)) (length c.args.out.now) ≡ accepted = opened (output) c.in-Accepted-output.is in
-    let ok = accepted_tree in record { marks_len_bound = omega (arith, (accepted_marked _ ok).sized, (accepted_sound _ ok).few); out_len = length_accepted _ _ (accepted_output) ∙ sym (accepted_count _ ok) }
+    let accepted_output : length_check (member_count (net)) (length c.args.out.now) ≡ accepted =
+    opened (output) c.in-Accepted-output.is in
+    let ok = accepted_tree in
+    record {
+      marks_len_bound = omega (arith, (accepted_marked _ ok).sized, (accepted_sound _ ok).few);
+      out_len = length_accepted _ _ (accepted_output) ∙ sym (accepted_count _ ok);
+    }
 
 pub returns : goal.returns
 unfolding members_answer members_list
@@ -53,10 +62,13 @@ returns c =
     let tree : Tree = tree_of c.args.parents.now c.args.costs.now c.args.marks.now in
     let accepted_tree : tree_check (tree) ≡ accepted = opened c.check_tree-tree.ensures c.in-Accepted.is in
     let net : Network = network (tree) in
-    let counted : c.count_members-n.result ≡ member_count (net) = c.count_members-n.ensures ∙ accepted_count _ (accepted_tree) in
-    let output : check_of c.check_output-output.result ≡ length_check (member_count (net)) (length c.args.out.now) = c.check_output-output.ensures
+    let counted : c.count_members-n.result ≡ member_count (net) =
+    c.count_members-n.ensures ∙ accepted_count _ (accepted_tree) in
+    let output : check_of c.check_output-output.result ≡ length_check (member_count (net)) (length c.args.out.now) =
+    c.check_output-output.ensures
     ∙ ap (λ (n : ℕ). length_check n (length c.args.out.now)) (counted) in
-    let accepted_output : length_check (member_count (net)) (length c.args.out.now) ≡ accepted = opened (output) c.in-Accepted-output.is in
+    let accepted_output : length_check (member_count (net)) (length c.args.out.now) ≡ accepted =
+    opened (output) c.in-Accepted-output.is in
     let tree = accepted_tree in
     let list = accepted_output in record {
       result_value = rw (tree, list, counted);

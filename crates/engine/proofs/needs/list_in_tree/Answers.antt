@@ -12,7 +12,12 @@ use Rattle.engine.proofs.needs.list_in_tree.Goals as goal
 pub returns : goal.returns
 unfolding whole_cost sum_below
 returns c =
-    let accepted_output : length_check (length c.args.parents.now) (length c.args.out.now) ≡ accepted = opened c.check_output-output.ensures c.in-Accepted.is in
+    let accepted_output : length_check (length c.args.parents.now) (length c.args.out.now) ≡ accepted =
+    opened c.check_output-output.ensures c.in-Accepted.is in
     let list = accepted_output in
     let count = c.count_members-members.ensures
-    ∙ marks_count _ _ c.requires.marked in record { result_value = rw (list, count, c.write_needs-whole.ensures.value); out_after = rw list c.write_needs-whole.ensures.out_after }
+    ∙ marks_count _ _ c.requires.marked in
+    record {
+      result_value = rw (list, count, c.write_needs-whole.ensures.value);
+      out_after = rw list c.write_needs-whole.ensures.out_after;
+    }

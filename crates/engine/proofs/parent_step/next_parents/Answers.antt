@@ -28,14 +28,16 @@ returns-in_default c =
 
 pub step-requires : goal.step-requires
 step-requires c =
-    let accepted_list : small_check c.args.parents.now ≡ accepted = opened c.check_small-list.ensures c.in-Accepted.is in
+    let accepted_list : small_check c.args.parents.now ≡ accepted =
+    opened c.check_small-list.ensures c.in-Accepted.is in
     let ok = accepted_list in
     record { few = omega (arith, small_few _ ok); rising = small_rooted _ ok }
 
 pub returns-then-step : goal.returns-then-step
 unfolding step_answer step_list
 returns-then-step c =
-    let accepted_list : small_check c.args.parents.now ≡ accepted = opened c.check_small-list.ensures c.in-Accepted.is in
+    let accepted_list : small_check c.args.parents.now ≡ accepted =
+    opened c.check_small-list.ensures c.in-Accepted.is in
     let ok = accepted_list in
     let is-next = sym (ap (λ (b : Bool). cond b next end) c.if-step.true) ∙ said _ c.step.ensures.value in
     record { result_value = rw ok (ap value is-next); parents_after = rw ok c.step.ensures.parents_after }
@@ -43,7 +45,8 @@ returns-then-step c =
 pub returns-else-step : goal.returns-else-step
 unfolding step_answer step_list
 returns-else-step c =
-    let accepted_list : small_check c.args.parents.now ≡ accepted = opened c.check_small-list.ensures c.in-Accepted.is in
+    let accepted_list : small_check c.args.parents.now ≡ accepted =
+    opened c.check_small-list.ensures c.in-Accepted.is in
     let ok = accepted_list in
     let is-end = sym (ap (λ (b : Bool). cond b next end) c.if-step.false) ∙ said _ c.step.ensures.value in
     record { result_value = rw ok (ap value is-end); parents_after = rw ok c.step.ensures.parents_after }

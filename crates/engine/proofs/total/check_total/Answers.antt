@@ -54,7 +54,8 @@ parts_of-parts-requires c =
 pub overflow_add-owed : goal.overflow_add-owed
 overflow_add-owed c =
     let tree : Tree = let s = c.args in tree_of s.parents.now s.costs.now s.marks.now in
-    let whole : c.whole_cost.result ≡ whole_cost (network (tree)) = c.whole_cost.ensures ∙ counted_whole (tree) c.write_counted.ensures _ in
+    let whole : c.whole_cost.result ≡ whole_cost (network (tree)) =
+    c.whole_cost.ensures ∙ counted_whole (tree) c.write_counted.ensures _ in
     let shares : List ℤ = c.args.proposal.now in
     let ok : audit_check (tree) (shares) ≡ accepted = opened c.check_proposed-checked.ensures c.in-Accepted.is in
     let tree_ok : tree_check (tree) ≡ accepted = tree_taken (tree) (shares) (ok) in
@@ -69,7 +70,8 @@ overflow_add-owed c =
 pub less-requires : goal.less-requires
 less-requires c =
     let tree : Tree = let s = c.args in tree_of s.parents.now s.costs.now s.marks.now in
-    let whole : c.whole_cost.result ≡ whole_cost (network (tree)) = c.whole_cost.ensures ∙ counted_whole (tree) c.write_counted.ensures _ in
+    let whole : c.whole_cost.result ≡ whole_cost (network (tree)) =
+    c.whole_cost.ensures ∙ counted_whole (tree) c.write_counted.ensures _ in
     let shares : List ℤ = c.args.proposal.now in
     let ok : audit_check (tree) (shares) ≡ accepted = opened c.check_proposed-checked.ensures c.in-Accepted.is in
     let tree_ok : tree_check (tree) ≡ accepted = tree_taken (tree) (shares) (ok) in
@@ -88,7 +90,8 @@ unfolding total_answer
 returns c =
     let tree : Tree = let s = c.args in tree_of s.parents.now s.costs.now s.marks.now in
     let shares : List ℤ = c.args.proposal.now in
-    let whole : c.whole_cost.result ≡ whole_cost (network (tree)) = c.whole_cost.ensures ∙ counted_whole (tree) c.write_counted.ensures _ in
+    let whole : c.whole_cost.result ≡ whole_cost (network (tree)) =
+    c.whole_cost.ensures ∙ counted_whole (tree) c.write_counted.ensures _ in
     let ok : audit_check (tree) (shares) ≡ accepted = opened c.check_proposed-checked.ensures c.in-Accepted.is in
     let t = tree in
     let proposed = shares in

@@ -25,7 +25,8 @@ unfolding member_count_answer state_check
 returns-in_default c =
     let held : State = state_of c.args.state in
     let state : State = held in
-    let answers : member_count_of c.count_members-counted.result ≡ member_count_answer (tree_in (state)) = c.count_members-counted.ensures ∙ ap member_count_answer (part_tree (state)) in
+    let answers : member_count_of c.count_members-counted.result ≡ member_count_answer (tree_in (state)) =
+    c.count_members-counted.ensures ∙ ap member_count_answer (part_tree (state)) in
     let few : ltb most_arcs (state).arcs ≡ false = le-ltb most_arcs (state).arcs c.if-m-gt-MOST_ARCS.false in
     let away = not_counted (tree_in (state)) (answers) c.in_default.is in
     record { answer_value = answers ∙ rw (few, away); state_value = rw (few, away) }
@@ -34,7 +35,8 @@ pub apply_in_tree-requires : goal.apply_in_tree-requires
 apply_in_tree-requires c =
     let held : State = state_of c.args.state in
     let state : State = held in
-    let answers : member_count_of c.count_members-counted.result ≡ member_count_answer (tree_in (state)) = c.count_members-counted.ensures ∙ ap member_count_answer (part_tree (state)) in
+    let answers : member_count_of c.count_members-counted.result ≡ member_count_answer (tree_in (state)) =
+    c.count_members-counted.ensures ∙ ap member_count_answer (part_tree (state)) in
     let is = counted (tree_in (state)) (answers) c.in-Members.is in
     record { arcs_le_most_arcs = c.if-m-gt-MOST_ARCS.false; state_value = is.0; members_value = is.1 }
 
@@ -43,7 +45,11 @@ unfolding state_check
 returns c =
     let held : State = state_of c.args.state in
     let state : State = held in
-    let answers : member_count_of c.count_members-counted.result ≡ member_count_answer (tree_in (state)) = c.count_members-counted.ensures ∙ ap member_count_answer (part_tree (state)) in
+    let answers : member_count_of c.count_members-counted.result ≡ member_count_answer (tree_in (state)) =
+    c.count_members-counted.ensures ∙ ap member_count_answer (part_tree (state)) in
     let few : ltb most_arcs (state).arcs ≡ false = le-ltb most_arcs (state).arcs c.if-m-gt-MOST_ARCS.false in
     let ok = (counted (tree_in (state)) (answers) c.in-Members.is).0 in
-    record { answer_value = rw (few, ok) c.apply_in_tree.ensures.answer_value; state_value = rw (few, ok) c.apply_in_tree.ensures.state_value_2 }
+    record {
+      answer_value = rw (few, ok) c.apply_in_tree.ensures.answer_value;
+      state_value = rw (few, ok) c.apply_in_tree.ensures.state_value_2;
+    }

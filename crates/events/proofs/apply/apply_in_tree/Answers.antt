@@ -28,7 +28,8 @@ returns-in_default c =
     let held : State = state_of c.args.state in
     let event : Event = event_of c.args.event in
     let tree : Tree = tree_in (held) in
-    let checked : check_of c.check_event-fits.result ≡ fit_check (tree) (event) = c.check_event-fits.ensures ∙ fit_is (held) (event) c.requires.state_value in
+    let checked : check_of c.check_event-fits.result ≡ fit_check (tree) (event) =
+    c.check_event-fits.ensures ∙ fit_is (held) (event) c.requires.state_value in
     let away = turned_away (checked) c.in_default.is
     c.refusal_of.ensures in
     record { answer_value = rw away; state_value_2 = rw away }
@@ -39,7 +40,10 @@ members_after-requires c =
     let tree : Tree = tree_in (held) in
     let pre = c.requires in
     let limits = tree_limits (tree) pre.state_value in
-    record { members_le_most_arcs = omega (arith, limits.members, pre.members_value); members_nonzero = omega (arith, limits.someone, pre.members_value) }
+    record {
+      members_le_most_arcs = omega (arith, limits.members, pre.members_value);
+      members_nonzero = omega (arith, limits.someone, pre.members_value);
+    }
 
 pub carry_out-requires : goal.carry_out-requires
 carry_out-requires c =
@@ -47,10 +51,12 @@ carry_out-requires c =
     let event : Event = event_of c.args.event in
     let held : State = state_of c.args.state in
     let tree : Tree = tree_in (held) in
-    let checked : check_of c.check_event-fits.result ≡ fit_check (tree) (event) = c.check_event-fits.ensures ∙ fit_is (held) (event) c.requires.state_value in
+    let checked : check_of c.check_event-fits.result ≡ fit_check (tree) (event) =
+    c.check_event-fits.ensures ∙ fit_is (held) (event) c.requires.state_value in
     let fits : fit_check (tree) (event) ≡ accepted = opened (checked) c.in-Accepted.is in
     let laws : OutcomeLaws (tree) (event) = outcome_laws (tree) (event) c.requires.state_value (fits) in
-    let tree_reached : tree_in (changed) ≡ reached (tree) (event) = changed_tree (held) (changed) (event).vertex (event).change
+    let tree_reached : tree_in (changed) ≡ reached (tree) (event) =
+    changed_tree (held) (changed) (event).vertex (event).change
     (omega (arith, (laws).vertex.last, tree_length (held))) c.changed-next.ensures.arcs_value
     c.changed-next.ensures.marks_value in
     let members_are : c.members_after.result ≡ member_count (network (tree_in (changed))) = c.members_after.ensures
@@ -61,7 +67,11 @@ carry_out-requires c =
     let few : next.arcs ≤ most_arcs =
     omega (arith, c.changed-next.ensures.arcs_value, c.requires.arcs_le_most_arcs) in
     let counts = count_le (length (tree_in next).parents) (network (tree_in next)).member in
-    record { arcs_le_most_arcs = few; members_value = members_are; members_le_most_arcs = omega (arith, members_are, counts, tree_length next, few) }
+    record {
+      arcs_le_most_arcs = few;
+      members_value = members_are;
+      members_le_most_arcs = omega (arith, members_are, counts, tree_length next, few);
+    }
 
 pub returns : goal.returns
 returns c =
@@ -69,10 +79,12 @@ returns c =
     let changed : State = state_of c.changed-next.result in
     let event : Event = event_of c.args.event in
     let tree : Tree = tree_in (held) in
-    let checked : check_of c.check_event-fits.result ≡ fit_check (tree) (event) = c.check_event-fits.ensures ∙ fit_is (held) (event) c.requires.state_value in
+    let checked : check_of c.check_event-fits.result ≡ fit_check (tree) (event) =
+    c.check_event-fits.ensures ∙ fit_is (held) (event) c.requires.state_value in
     let fits : fit_check (tree) (event) ≡ accepted = opened (checked) c.in-Accepted.is in
     let laws : OutcomeLaws (tree) (event) = outcome_laws (tree) (event) c.requires.state_value (fits) in
-    let tree_reached : tree_in (changed) ≡ reached (tree) (event) = changed_tree (held) (changed) (event).vertex (event).change
+    let tree_reached : tree_in (changed) ≡ reached (tree) (event) =
+    changed_tree (held) (changed) (event).vertex (event).change
     (omega (arith, (laws).vertex.last, tree_length (held))) c.changed-next.ensures.arcs_value
     c.changed-next.ensures.marks_value in
     let here = tree_reached in

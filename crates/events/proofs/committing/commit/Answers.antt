@@ -21,7 +21,11 @@ unfolding commit_answer committed_state commit_check
 returns c =
     let held : State = state_of c.args.state in
     let quote : Quote = quote_of c.args.quote in
-    let number_passes : number_check (quote).committed (held).committed ≡ accepted = opened c.check_number-checked.ensures c.in-Accepted.is in
+    let number_passes : number_check (quote).committed (held).committed ≡ accepted =
+    opened c.check_number-checked.ensures c.in-Accepted.is in
     let up : (held).committed + 1 ≡ suc (held).committed = omega arith in
     let passes = number_passes in
-    record { answer_value = rw passes c.apply_event.ensures.answer_value; state_value = rw (passes, ← up) c.apply_event.ensures.state_value }
+    record {
+      answer_value = rw passes c.apply_event.ensures.answer_value;
+      state_value = rw (passes, ← up) c.apply_event.ensures.state_value;
+    }

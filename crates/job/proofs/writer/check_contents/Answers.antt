@@ -24,9 +24,12 @@ unfolding contents_check
 returns-in_default-limits c =
     let given : Contents = let args = c.args in
     contents args.note.now args.parents.now args.costs.now args.caps.now args.proposals.now in
-    let plain : plain_check given.parents given.costs ≡ accepted = sym (plain_check_lem _ _) ∙ (tree_counted _ _ c.dead_end_members-count.ensures c.in-Members.is).0 in
-    let members_are : c.in-Members.members ≡ members_of given = (tree_counted _ _ c.dead_end_members-count.ensures c.in-Members.is).1 in
-    let caps_found : check_of c.check_caps-limits.result ≡ caps_check (members_of given) given.caps = rw members_are at c.check_caps-limits.ensures in
+    let plain : plain_check given.parents given.costs ≡ accepted =
+    sym (plain_check_lem _ _) ∙ (tree_counted _ _ c.dead_end_members-count.ensures c.in-Members.is).0 in
+    let members_are : c.in-Members.members ≡ members_of given =
+    (tree_counted _ _ c.dead_end_members-count.ensures c.in-Members.is).1 in
+    let caps_found : check_of c.check_caps-limits.result ≡ caps_check (members_of given) given.caps =
+    rw members_are at c.check_caps-limits.ensures in
     went_on plain (stopped _ caps_found c.in_default-limits.is)
 
 pub returns-in_default-shares : goal.returns-in_default-shares
@@ -34,11 +37,15 @@ unfolding contents_check
 returns-in_default-shares c =
     let given : Contents = let args = c.args in
     contents args.note.now args.parents.now args.costs.now args.caps.now args.proposals.now in
-    let plain : plain_check given.parents given.costs ≡ accepted = sym (plain_check_lem _ _) ∙ (tree_counted _ _ c.dead_end_members-count.ensures c.in-Members.is).0 in
-    let members_are : c.in-Members.members ≡ members_of given = (tree_counted _ _ c.dead_end_members-count.ensures c.in-Members.is).1 in
-    let caps_found : check_of c.check_caps-limits.result ≡ caps_check (members_of given) given.caps = rw members_are at c.check_caps-limits.ensures in
+    let plain : plain_check given.parents given.costs ≡ accepted =
+    sym (plain_check_lem _ _) ∙ (tree_counted _ _ c.dead_end_members-count.ensures c.in-Members.is).0 in
+    let members_are : c.in-Members.members ≡ members_of given =
+    (tree_counted _ _ c.dead_end_members-count.ensures c.in-Members.is).1 in
+    let caps_found : check_of c.check_caps-limits.result ≡ caps_check (members_of given) given.caps =
+    rw members_are at c.check_caps-limits.ensures in
     let caps_accepted : caps_check (members_of given) given.caps ≡ accepted = opened caps_found c.in-Accepted.is in
-    let proposals_found : check_of c.check_proposal-shares.result ≡ proposal_check (members_of given) given.proposals = rw members_are at c.check_proposal-shares.ensures in
+    let proposals_found : check_of c.check_proposal-shares.result ≡ proposal_check (members_of given) given.proposals =
+    rw members_are at c.check_proposal-shares.ensures in
     went_on plain
     (went_on caps_accepted (stopped _ proposals_found c.in_default-shares.is))
 
@@ -47,11 +54,15 @@ unfolding contents_check
 returns c =
     let given : Contents = let args = c.args in
     contents args.note.now args.parents.now args.costs.now args.caps.now args.proposals.now in
-    let plain : plain_check given.parents given.costs ≡ accepted = sym (plain_check_lem _ _) ∙ (tree_counted _ _ c.dead_end_members-count.ensures c.in-Members.is).0 in
-    let members_are : c.in-Members.members ≡ members_of given = (tree_counted _ _ c.dead_end_members-count.ensures c.in-Members.is).1 in
-    let caps_found : check_of c.check_caps-limits.result ≡ caps_check (members_of given) given.caps = rw members_are at c.check_caps-limits.ensures in
+    let plain : plain_check given.parents given.costs ≡ accepted =
+    sym (plain_check_lem _ _) ∙ (tree_counted _ _ c.dead_end_members-count.ensures c.in-Members.is).0 in
+    let members_are : c.in-Members.members ≡ members_of given =
+    (tree_counted _ _ c.dead_end_members-count.ensures c.in-Members.is).1 in
+    let caps_found : check_of c.check_caps-limits.result ≡ caps_check (members_of given) given.caps =
+    rw members_are at c.check_caps-limits.ensures in
     let caps_accepted : caps_check (members_of given) given.caps ≡ accepted = opened caps_found c.in-Accepted.is in
-    let proposals_found : check_of c.check_proposal-shares.result ≡ proposal_check (members_of given) given.proposals = rw members_are at c.check_proposal-shares.ensures in
+    let proposals_found : check_of c.check_proposal-shares.result ≡ proposal_check (members_of given) given.proposals =
+    rw members_are at c.check_proposal-shares.ensures in
     went_on plain
     (went_on caps_accepted
     (went_on (opened proposals_found c.in-Accepted-shares.is) c.check_note.ensures))

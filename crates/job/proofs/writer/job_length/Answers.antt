@@ -23,7 +23,8 @@ overflow_mul-result c =
     contents args.note.now args.parents.now args.costs.now args.caps.now args.proposals.now in
     let start : Contents = given in
     let ok : contents_check start ≡ accepted = opened c.check_contents-found.ensures c.in-Accepted.is in
-    let small : length start.note + 8 * length start.parents + 16 * length start.caps + 16 < 2 ^ 64 = let w = fillable start (writable start ok) in
+    let small : length start.note + 8 * length start.parents + 16 * length start.caps + 16 < 2 ^ 64 =
+    let w = fillable start (writable start ok) in
     omega (arith, w.note, few_arcs _ _ _ w, few_members _ _ _ w) in
     omega (arith, small)
 
@@ -33,7 +34,8 @@ overflow_add-result c =
     contents args.note.now args.parents.now args.costs.now args.caps.now args.proposals.now in
     let start : Contents = given in
     let ok : contents_check start ≡ accepted = opened c.check_contents-found.ensures c.in-Accepted.is in
-    let small : length start.note + 8 * length start.parents + 16 * length start.caps + 16 < 2 ^ 64 = let w = fillable start (writable start ok) in
+    let small : length start.note + 8 * length start.parents + 16 * length start.caps + 16 < 2 ^ 64 =
+    let w = fillable start (writable start ok) in
     omega (arith, w.note, few_arcs _ _ _ w, few_members _ _ _ w) in
     omega (arith, small)
 
@@ -43,7 +45,8 @@ overflow_add-result-2 c =
     contents args.note.now args.parents.now args.costs.now args.caps.now args.proposals.now in
     let start : Contents = given in
     let ok : contents_check start ≡ accepted = opened c.check_contents-found.ensures c.in-Accepted.is in
-    let small : length start.note + 8 * length start.parents + 16 * length start.caps + 16 < 2 ^ 64 = let w = fillable start (writable start ok) in
+    let small : length start.note + 8 * length start.parents + 16 * length start.caps + 16 < 2 ^ 64 =
+    let w = fillable start (writable start ok) in
     omega (arith, w.note, few_arcs _ _ _ w, few_members _ _ _ w) in
     omega (arith, small)
 
@@ -53,7 +56,8 @@ overflow_add-result-3 c =
     contents args.note.now args.parents.now args.costs.now args.caps.now args.proposals.now in
     let start : Contents = given in
     let ok : contents_check start ≡ accepted = opened c.check_contents-found.ensures c.in-Accepted.is in
-    let small : length start.note + 8 * length start.parents + 16 * length start.caps + 16 < 2 ^ 64 = let w = fillable start (writable start ok) in
+    let small : length start.note + 8 * length start.parents + 16 * length start.caps + 16 < 2 ^ 64 =
+    let w = fillable start (writable start ok) in
     omega (arith, w.note, few_arcs _ _ _ w, few_members _ _ _ w) in
     omega (arith, small)
 

@@ -23,9 +23,11 @@ pub returns-in_default-space : goal.returns-in_default-space
 returns-in_default-space c =
     let given : Contents = let args = c.args in
     contents args.note.now args.parents.now args.costs.now args.caps.now args.proposals.now in
-    let known : (contents_check given ≡ accepted) × (c.in-Length.length ≡ length (plain_job given)) = length_known _ c.job_length-asked.ensures c.in-Length.is in
+    let known : (contents_check given ≡ accepted) × (c.in-Length.length ≡ length (plain_job given)) =
+    length_known _ c.job_length-asked.ensures c.in-Length.is in
     let output : List ℕ = c.args.out.now in
-    let space_found : check_of c.check_space-space.result ≡ space_check (length output) (length (plain_job given)) = rw known.1 at c.check_space-space.ensures in
+    let space_found : check_of c.check_space-space.result ≡ space_check (length output) (length (plain_job given)) =
+    rw known.1 at c.check_space-space.ensures in
     let away = turned_away space_found c.in_default-space.is c.refusal_of.ensures in
     let it = no_space _ _ known.0 away in record { result_value = it.0; out_after = it.1 }
 
@@ -34,9 +36,12 @@ put_plain-requires c =
     let output : List ℕ = c.args.out.now in
     let given : Contents = let args = c.args in
     contents args.note.now args.parents.now args.costs.now args.caps.now args.proposals.now in
-    let known : (contents_check given ≡ accepted) × (c.in-Length.length ≡ length (plain_job given)) = length_known _ c.job_length-asked.ensures c.in-Length.is in
-    let space_found : check_of c.check_space-space.result ≡ space_check (length output) (length (plain_job given)) = rw known.1 at c.check_space-space.ensures in
-    let space_accepted : space_check (length output) (length (plain_job given)) ≡ accepted = opened space_found c.in-Accepted.is in
+    let known : (contents_check given ≡ accepted) × (c.in-Length.length ≡ length (plain_job given)) =
+    length_known _ c.job_length-asked.ensures c.in-Length.is in
+    let space_found : check_of c.check_space-space.result ≡ space_check (length output) (length (plain_job given)) =
+    rw known.1 at c.check_space-space.ensures in
+    let space_accepted : space_check (length output) (length (plain_job given)) ≡ accepted =
+    opened space_found c.in-Accepted.is in
     let room = has_room _ output known.0 space_accepted in
     record { parents_len_bound = room.0; costs_len = room.1; proposals_len = room.2; caps_in_bounds = room.3 }
 
@@ -44,9 +49,12 @@ pub returns : goal.returns
 returns c =
     let given : Contents = let args = c.args in
     contents args.note.now args.parents.now args.costs.now args.caps.now args.proposals.now in
-    let known : (contents_check given ≡ accepted) × (c.in-Length.length ≡ length (plain_job given)) = length_known _ c.job_length-asked.ensures c.in-Length.is in
+    let known : (contents_check given ≡ accepted) × (c.in-Length.length ≡ length (plain_job given)) =
+    length_known _ c.job_length-asked.ensures c.in-Length.is in
     let output : List ℕ = c.args.out.now in
-    let space_found : check_of c.check_space-space.result ≡ space_check (length output) (length (plain_job given)) = rw known.1 at c.check_space-space.ensures in
-    let space_accepted : space_check (length output) (length (plain_job given)) ≡ accepted = opened space_found c.in-Accepted.is in
+    let space_found : check_of c.check_space-space.result ≡ space_check (length output) (length (plain_job given)) =
+    rw known.1 at c.check_space-space.ensures in
+    let space_accepted : space_check (length output) (length (plain_job given)) ≡ accepted =
+    opened space_found c.in-Accepted.is in
     let written = written_out _ _ known.0 space_accepted c.put_plain.ensures in
     record { result_value = rw known.1 written.0; out_after = written.1 }

@@ -11,6 +11,7 @@ slice_bounds-ends-end c = (tree_limits _ c.requires.costs_value).arcs
 
 pub returns : goal.returns
 returns c =
-    let marks = marks_part _ _ c.requires.costs_value _ (zeros_length most_arcs _ (tree_limits _ c.requires.costs_value).arcs)
+    let marks =
+    marks_part _ _ c.requires.costs_value _ (zeros_length most_arcs _ (tree_limits _ c.requires.costs_value).arcs)
     c.mark_dead_ends.auto.out c.mark_dead_ends.ensures.out_after in
     rw (dead_ends_length c.args.parents.now) at (rw marks at c.check_ends.ensures)

@@ -14,7 +14,11 @@ pub returns-in_default : goal.returns-in_default
 unfolding to2_check to2_answer to2_output
 returns-in_default c =
     let it = refused_first (in_version Two c.args.bytes.now) c.args.out.now
-    (turned_away c.check_job-job.ensures c.in_default.is c.refusal_of.ensures) in record { result_value = it.0; out_after = it.1 }
+    (turned_away c.check_job-job.ensures c.in_default.is c.refusal_of.ensures) in
+    record {
+      result_value = it.0;
+      out_after = it.1;
+    }
 
 pub write_in-requires : goal.write_in-requires
 unfolding other
@@ -26,5 +30,6 @@ pub returns : goal.returns
 unfolding to2_check to2_answer to2_output
 returns c =
     let checked : job_check One c.args.bytes.now ≡ accepted = opened c.check_job-job.ensures c.in-Accepted.is in
-    let it = accepted_first (in_version Two c.args.bytes.now) c.args.out.now checked (c.write_in.ensures.result_value, c.write_in.ensures.out_after) in
+    let it =
+    accepted_first (in_version Two c.args.bytes.now) c.args.out.now checked (c.write_in.ensures.result_value, c.write_in.ensures.out_after) in
     record { result_value = it.0; out_after = it.1 }

@@ -19,8 +19,10 @@ pub returns-in_default : goal.returns-in_default
 returns-in_default c =
     let job : List ℕ = in_version c.args.version c.args.bytes.now in
     let output : List ℕ = c.args.out.now in
-    let known : c.length_in-length.result ≡ length job = length_is c.args.version c.args.bytes.now c.requires c.length_in-length.ensures in
-    let space_found : check_of c.check_space-space.result ≡ space job output = rw known at c.check_space-space.ensures in
+    let known : c.length_in-length.result ≡ length job =
+    length_is c.args.version c.args.bytes.now c.requires c.length_in-length.ensures in
+    let space_found : check_of c.check_space-space.result ≡ space job output =
+    rw known at c.check_space-space.ensures in
     let it = turned_away job output
     (refused-by space_found c.in_default.is c.refusal_of.ensures) in record { result_value = it.0; out_after = it.1 }
 
@@ -28,17 +30,21 @@ pub put_in-requires : goal.put_in-requires
 put_in-requires c =
     let job : List ℕ = in_version c.args.version c.args.bytes.now in
     let output : List ℕ = c.args.out.now in
-    let known : c.length_in-length.result ≡ length job = length_is c.args.version c.args.bytes.now c.requires c.length_in-length.ensures in
-    let space_found : check_of c.check_space-space.result ≡ space job output = rw known at c.check_space-space.ensures in
+    let known : c.length_in-length.result ≡ length job =
+    length_is c.args.version c.args.bytes.now c.requires c.length_in-length.ensures in
+    let space_found : check_of c.check_space-space.result ≡ space job output =
+    rw known at c.check_space-space.ensures in
     let fits : space job output ≡ accepted = opened space_found c.in-Accepted.is in
     record { bytes_value = c.requires; bytes_in_bounds = has_space job output fits }
 
 pub returns : goal.returns
 returns c =
     let job : List ℕ = in_version c.args.version c.args.bytes.now in
-    let known : c.length_in-length.result ≡ length job = length_is c.args.version c.args.bytes.now c.requires c.length_in-length.ensures in
+    let known : c.length_in-length.result ≡ length job =
+    length_is c.args.version c.args.bytes.now c.requires c.length_in-length.ensures in
     let output : List ℕ = c.args.out.now in
-    let space_found : check_of c.check_space-space.result ≡ space job output = rw known at c.check_space-space.ensures in
+    let space_found : check_of c.check_space-space.result ≡ space job output =
+    rw known at c.check_space-space.ensures in
     let fits : space job output ≡ accepted = opened space_found c.in-Accepted.is in
     let written = written_out job output fits c.put_in.ensures in
     record { result_value = rw known written.0; out_after = written.1 }

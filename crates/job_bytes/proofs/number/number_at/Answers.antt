@@ -9,12 +9,14 @@ loop-i-init c = reading_start _ _ _
 
 pub overflow_mul-n : goal.overflow_mul-n
 overflow_mul-n c =
-    let room : c.loop-i.n < 72057594037927936 = reading_room _ _ _ c.loop-i.invariant c.loop-i-test.true c.requires.width_bound in
+    let room : c.loop-i.n < 72057594037927936 =
+    reading_room _ _ _ c.loop-i.invariant c.loop-i-test.true c.requires.width_bound in
     omega (arith, room)
 
 pub overflow_add-n : goal.overflow_add-n
 overflow_add-n c =
-    let room : c.loop-i.n < 72057594037927936 = reading_room _ _ _ c.loop-i.invariant c.loop-i-test.true c.requires.width_bound in
+    let room : c.loop-i.n < 72057594037927936 =
+    reading_room _ _ _ c.loop-i.invariant c.loop-i-test.true c.requires.width_bound in
     omega (arith, room, c.wide.ensures.upper_bound)
 
 pub loop-i-preserved : goal.loop-i-preserved

@@ -10,4 +10,7 @@ returns c =
     let parent = c.put_number-a.ensures in
     let filler = c.put_number-b.ensures in
     let cost = c.put_number.ensures in
-    record { put = put_then (put_then parent.put filler.put) cost.put; value = omega (arith, parent.value, filler.value, cost.value) }
+    record {
+      put = put_then (put_then parent.put filler.put) cost.put;
+      value = omega (arith, parent.value, filler.value, cost.value);
+    }

@@ -14,4 +14,8 @@ returns c =
     let width = c.floor_width.ensures.value in
     let given = to_z-of_z c.ranges.proposal in
     let bits = rw given at c.bits_of.ensures in
-    let second = rw bits at proposal.put in record { put = put_then (put_then cap.put second) (rw width at floor.put); value = omega (arith, cap.value, proposal.value, floor.value, width) }
+    let second = rw bits at proposal.put in
+    record {
+      put = put_then (put_then cap.put second) (rw width at floor.put);
+      value = omega (arith, cap.value, proposal.value, floor.value, width);
+    }

@@ -1,10 +1,4 @@
-use Prim.Native.Nat.{◌-◌, ◌≤◌, ◌<◌}
-use native.Mathlib.Omega.{arith}
-use lib.ListN.{length, get_or}
-use Rattle.limits.specs.Limits.{most_arcs}
-use borrow.Author.Rules.{rules}
-use Rattle.key_passes.proofs.Places.{rising_at}
-use Rattle.key_passes.proofs.Settling.{Settling, settling_start, settling_on, settling_end}
+use Rattle.key_passes.proofs.Settling.{settling_on}
 use Rattle.key_passes.proofs.flags.settle.Goals as goal
 
 pub loop-i-preserved : goal.loop-i-preserved

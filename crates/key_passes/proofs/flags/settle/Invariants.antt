@@ -1,10 +1,6 @@
-use Prim.Native.Nat.{◌-◌, ◌≤◌, ◌<◌}
-use native.Mathlib.Omega.{arith}
-use lib.ListN.{length, get_or}
-use Rattle.limits.specs.Limits.{most_arcs}
-use borrow.Author.Rules.{rules}
-use Rattle.key_passes.proofs.Places.{rising_at}
-use Rattle.key_passes.proofs.Settling.{Settling, settling_start, settling_on, settling_end}
+use Prim.Native.Nat.{◌-◌}
+use lib.ListN.{length}
+use Rattle.key_passes.proofs.Settling.{Settling}
 use Rattle.key_passes.proofs.flags.settle.Given as goal
 
 abbrev pub invariant-loop-i : goal.invariant-loop-i

@@ -1,9 +1,6 @@
-use Prim.Native.Nat.{◌-◌, ◌≤◌, ◌<◌}
 use native.Mathlib.Omega.{arith}
-use borrow.Author.Rules.{rules}
-use lib.ListN.{length, get_or}
-use Rattle.limits.specs.Limits.{most_arcs}
-use Rattle.key_passes.proofs.Keeping.{Keeping, keeping_start, keeping_here, keeping_fits}
+use lib.ListN.{get_or}
+use Rattle.key_passes.proofs.Keeping.{keeping_start, keeping_fits}
 use Rattle.key_passes.proofs.Keeping.{keeping_on, keeping_end}
 use Rattle.key_passes.proofs.keep.keep_open.Goals as goal
 
@@ -30,4 +27,8 @@ loop-i-preserved c =
     c.link_after.ensures c.one_if_open-next.ensures
 
 pub returns : goal.returns
-returns c = let inv = c.loop-i.invariant in record { upper_bound = omega (arith, inv.front, inv.within); kept = keeping_end _ _ _ _ _ _ _ inv (omega (arith, inv.order_sized, c.loop-i-test.false)) }
+returns c = let inv = c.loop-i.invariant in
+record {
+  upper_bound = omega (arith, inv.front, inv.within);
+  kept = keeping_end _ _ _ _ _ _ _ inv (omega (arith, inv.order_sized, c.loop-i-test.false));
+}

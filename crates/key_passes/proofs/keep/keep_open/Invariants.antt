@@ -1,10 +1,6 @@
-use Prim.Native.Nat.{◌-◌, ◌≤◌, ◌<◌}
-use native.Mathlib.Omega.{arith}
-use borrow.Author.Rules.{rules}
-use lib.ListN.{length, get_or}
-use Rattle.limits.specs.Limits.{most_arcs}
-use Rattle.key_passes.proofs.Keeping.{Keeping, keeping_start, keeping_here, keeping_fits}
-use Rattle.key_passes.proofs.Keeping.{keeping_on, keeping_end}
+use Prim.Native.Nat.{◌-◌}
+use lib.ListN.{length}
+use Rattle.key_passes.proofs.Keeping.{Keeping}
 use Rattle.key_passes.proofs.keep.keep_open.Given as goal
 
 abbrev pub invariant-loop-i : goal.invariant-loop-i

@@ -1,16 +1,13 @@
 use Prim.Native.Nat.{ℕ, suc, ◌+◌, ◌-◌, ◌≤◌, ◌<◌, max}
 use mathlib.Core.Path.{◌≡◌, ap, ◌∙◌}
 use native.Mathlib.Omega.{arith}
-use borrow.Author.Rules.{rules}
-use lib.ListN.{length, set}
-use lib.Seq.{get_or-set_same}
 use Rattle.game.specs.Tree.{of_arc}
 use Rattle.game.proofs.ArcEntries.{arc_entry}
 use Rattle.limits.specs.Inner.{most_total}
 use Rattle.key_passes.specs.Passes.{at, own_at}
-use Rattle.key_passes.proofs.Evaluating.{Evaluating, Ready, evaluating_start, evaluating_on, evaluating_end}
-use Rattle.key_passes.proofs.Evaluating.{cleared_end, evaluating_fits, linked_fits}
-use Rattle.key_passes.proofs.Evaluating.{place_fits, link_lower, link_within}
+use Rattle.key_passes.proofs.Evaluating.{Ready, evaluating_start, evaluating_on}
+use Rattle.key_passes.proofs.Evaluating.{evaluating_fits, linked_fits}
+use Rattle.key_passes.proofs.Evaluating.{link_lower}
 use Rattle.key_passes.proofs.values.evaluate.Goals as goal
 
 pub loop-i-init : goal.loop-i-init
@@ -25,7 +22,8 @@ overflow_add-total c =
     record { few = pre.bounds_len_bound; rises = pre.rising; addable = pre.addable; closed = pre.by_index } in
     let next : c.loop-i.i ≡ suc (c.loop-i.i - 1) = omega arith in
     let vertex : ℕ = at c.args.order.now (c.loop-i.i - 1) in
-    let sum_fits : at c.loop-i.sums (vertex) + own (vertex) ≤ most_total = evaluating_fits _ _ _ _ (ready) _ _ (next) c.loop-i.invariant in
+    let sum_fits : at c.loop-i.sums (vertex) + own (vertex) ≤ most_total =
+    evaluating_fits _ _ _ _ (ready) _ _ (next) c.loop-i.invariant in
     omega (arith, sum_fits)
 
 pub overflow_add-total-in-loop-i : goal.overflow_add-total-in-loop-i
@@ -35,7 +33,8 @@ overflow_add-total-in-loop-i c =
     record { few = pre.bounds_len_bound; rises = pre.rising; addable = pre.addable; closed = pre.by_index } in
     let next : c.loop-i.i ≡ suc (c.loop-i.i - 1) = omega arith in
     let vertex : ℕ = at c.args.order.now (c.loop-i.i - 1) in
-    let sum_fits : at c.loop-i.sums (vertex) + own (vertex) ≤ most_total = evaluating_fits _ _ _ _ (ready) _ _ (next) c.loop-i.invariant in
+    let sum_fits : at c.loop-i.sums (vertex) + own (vertex) ≤ most_total =
+    evaluating_fits _ _ _ _ (ready) _ _ (next) c.loop-i.invariant in
     omega (arith, sum_fits, c.share_at-share.ensures)
 
 pub overflow_add-sums : goal.overflow_add-sums

@@ -1,4 +1,4 @@
-use Rattle.std.proofs.Common.{◌-◌, length, rules}
+use Rattle.std.proofs.Common.{◌-◌, length}
 use Rattle.key_search.proofs.choose.guess_roots.Given as goal
 
 abbrev pub invariant-loop-i : goal.invariant-loop-i

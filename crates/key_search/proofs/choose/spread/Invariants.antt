@@ -1,7 +1,7 @@
-use Rattle.std.proofs.Common.{ℕ, ◌+◌, ◌-◌, ◌<◌, ◌≤◌, length, get_or, arith, rules}
+use Rattle.std.proofs.Common.{ℕ, ◌+◌, ◌-◌, ◌<◌, length}
 use Rattle.limits.specs.Limits.{most_arcs}
 use Rattle.key_passes.specs.Passes.{at, Rising}
-use Rattle.key_search.proofs.Spreading.{Spreading, spreading_start, spreading_on, spreading_end}
+use Rattle.key_search.proofs.Spreading.{Spreading}
 use Rattle.key_search.proofs.choose.spread.Given as goal
 
 abbrev pub invariant-loop-i : goal.invariant-loop-i

@@ -1,7 +1,7 @@
-use Rattle.std.proofs.Common.{◌≡◌, ◌-◌, ◌≤◌, length, get_or, arith, rules}
+use Rattle.std.proofs.Common.{◌≡◌, ◌-◌, ◌≤◌, length}
 use Rattle.limits.specs.Limits.{most_arcs}
 use Rattle.key_passes.specs.Passes.{Apart}
-use Rattle.key_search.proofs.Placing.{Placing, placing_start, placing_on, placing_end}
+use Rattle.key_search.proofs.Placing.{Placing}
 use Rattle.key_search.proofs.members.place_members.Given as goal
 
 abbrev pub invariant-loop-j : goal.invariant-loop-j

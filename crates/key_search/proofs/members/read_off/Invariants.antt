@@ -1,6 +1,6 @@
-use Rattle.std.proofs.Common.{◌≡◌, ℕ, ◌-◌, ◌<◌, ◌≤◌, length, get_or, arith, rules}
+use Rattle.std.proofs.Common.{◌≡◌, ℕ, ◌-◌, ◌<◌, ◌≤◌, length}
 use Rattle.limits.specs.Limits.{most_arcs}
-use Rattle.basics.proofs.Filling.{Filling, filling_on}
+use Rattle.basics.proofs.Filling.{Filling}
 use Rattle.key_passes.specs.Passes.{at, share_at}
 use Rattle.key_search.proofs.members.read_off.Given as goal
 

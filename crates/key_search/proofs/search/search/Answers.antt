@@ -1,18 +1,17 @@
-use Rattle.std.proofs.Common.{◌≡◌, ◌+◌, ◌-◌, ◌≤◌, length, take, refl, ◌∙◌, arith, length-take, rules}
+use Rattle.std.proofs.Common.{◌≡◌, ◌+◌, ◌-◌, refl, ◌∙◌, arith, length-take}
 use native.Mathlib.Nat.{sub-zero}
 use lib.ListN.{get_or-replicate}
 use lib.Seq.{take-length}
-use Rattle.basics.specs.Sum.{sum}
 use Rattle.game.proofs.Encoding.{zeros}
-use Rattle.key_passes.specs.Passes.{at}
-use Rattle.key_search.proofs.Searching.{last_key, Ready, Standing, standing_start, standing_on, standing_end}
-use Rattle.key_search.proofs.Searching.{few_bounds, rises, rises_by_bounds, wide, closed, room, addable, nearer}
+use Rattle.key_search.proofs.Searching.{last_key, Ready, standing_start, standing_on, standing_end}
+use Rattle.key_search.proofs.Searching.{few_bounds, rises_by_bounds, closed, room, addable, nearer}
 use Rattle.key_search.proofs.Searching.{back_sized, back_within, back_open}
 use Rattle.key_search.proofs.search.search.Goals as goal
 
 pub loop-count-init : goal.loop-count-init
 loop-count-init c =
-    let ready : let args = c.args in Ready args.parents.now args.vertices.now args.caps.now args.bounds.now args.caps_at.now args.numbers_at.now = let pre = c.requires in
+    let ready : let args =
+    c.args in Ready args.parents.now args.vertices.now args.caps.now args.bounds.now args.caps_at.now args.numbers_at.now = let pre = c.requires in
     record {
       sound = pre.sound;
       listed = pre.listed;
@@ -34,12 +33,26 @@ evaluate-requires c =
     let inv = c.loop-count.invariant in
     let all = inv.0 in
     let standing = inv.3 in
-    let adding = addable all standing c.choose.ensures in record { bounds_len_bound = few_bounds all; rising = rises_by_bounds all standing; addable = adding; by_index = closed all standing; by_index_2 = standing.no_sums; sums_value = standing.no_sum }
+    let adding = addable all standing c.choose.ensures in
+    record {
+      bounds_len_bound = few_bounds all;
+      rising = rises_by_bounds all standing;
+      addable = adding;
+      by_index = closed all standing;
+      by_index_2 = standing.no_sums;
+      sums_value = standing.no_sum;
+    }
 
 pub keep_open-count-requires : goal.keep_open-count-requires
 keep_open-count-requires c =
     let inv = c.loop-count.invariant in
-    let standing = inv.3 in record { bounds_len_bound = few_bounds inv.0; rising = rises_by_bounds inv.0 standing; by_index = room inv.0 standing; by_index_2 = closed inv.0 standing }
+    let standing = inv.3 in
+    record {
+      bounds_len_bound = few_bounds inv.0;
+      rising = rises_by_bounds inv.0 standing;
+      by_index = room inv.0 standing;
+      by_index_2 = closed inv.0 standing;
+    }
 
 pub loop-count-smaller : goal.loop-count-smaller
 loop-count-smaller c =

@@ -1,7 +1,7 @@
-use Rattle.std.proofs.Common.{suc, ◌-◌, ◌≤◌, length, refl, arith, rules}
+use Rattle.std.proofs.Common.{suc, ◌-◌, ◌≤◌, length}
 use Rattle.limits.specs.Limits.{most_arcs}
-use Rattle.basics.proofs.Filling.{Filling, filling_on, filling_list}
-use Rattle.key_search.proofs.Placing.{Linking, linking_on}
+use Rattle.basics.proofs.Filling.{Filling}
+use Rattle.key_search.proofs.Placing.{Linking}
 use Rattle.key_search.proofs.start.open_all.Given as goal
 
 abbrev pub invariant-loop-i : goal.invariant-loop-i

@@ -32,14 +32,17 @@ loop-k-init c =
 pub bounds-needs-k : goal.bounds-needs-k
 bounds-needs-k c =
     let net : Network = network_at c.args.parents.now c.args.costs.now c.args.vertices.now in
-    let place : c.loop-k.k - 1 - 1 < length c.args.parents.now = omega (arith, c.loop-k.invariant.7, c.loop-k-test.true) in
-    let needs_place : c.loop-k.k - 1 - 1 < length c.args.needs.now = rw (c.loop-k.invariant.4, list_length (need (net)) (length c.args.parents.now)) (place) in
+    let place : c.loop-k.k - 1 - 1 < length c.args.parents.now =
+    omega (arith, c.loop-k.invariant.7, c.loop-k-test.true) in
+    let needs_place : c.loop-k.k - 1 - 1 < length c.args.needs.now =
+    rw (c.loop-k.invariant.4, list_length (need (net)) (length c.args.parents.now)) (place) in
     needs_place
 
 pub overflow_add-below : goal.overflow_add-below
 overflow_add-below c =
     let net : Network = network_at c.args.parents.now c.args.costs.now c.args.vertices.now in
-    let adjusted_here : c.greater_of-adjusted.result ≡ adjusted (net) c.args.floors.now (c.loop-k.k - 1) = let inv = c.loop-k.invariant in
+    let adjusted_here : c.greater_of-adjusted.result ≡ adjusted (net) c.args.floors.now (c.loop-k.k - 1) =
+    let inv = c.loop-k.invariant in
     adjusting_at _ _ _ c.args.floors.now inv.0 inv.1 inv.2 inv.4 inv.5 (omega arith)
     (omega arith) inv.8 inv.9 c.greater_of-own.ensures c.greater_of-adjusted.ensures in
     let at = c.loop-k in
@@ -53,7 +56,8 @@ overflow_add-below c =
 pub loop-k-preserved : goal.loop-k-preserved
 loop-k-preserved c =
     let net : Network = network_at c.args.parents.now c.args.costs.now c.args.vertices.now in
-    let adjusted_here : c.greater_of-adjusted.result ≡ adjusted (net) c.args.floors.now (c.loop-k.k - 1) = let inv = c.loop-k.invariant in
+    let adjusted_here : c.greater_of-adjusted.result ≡ adjusted (net) c.args.floors.now (c.loop-k.k - 1) =
+    let inv = c.loop-k.invariant in
     adjusting_at _ _ _ c.args.floors.now inv.0 inv.1 inv.2 inv.4 inv.5 (omega arith)
     (omega arith) inv.8 inv.9 c.greater_of-own.ensures c.greater_of-adjusted.ensures in
     let inv = c.loop-k.invariant in (

@@ -15,7 +15,13 @@ write_shares-requires c =
     let bounds =
     adjusted_bounds given.parents.now given.costs.now given.vertices.now given.caps.now
     given.floors.now pre.sound pre.listed found.out_after served in
-    record { sound = pre.sound; listed = pre.listed; capped = rest.capped; bounds = bounds; shares_len = rest.shares_len }
+    record {
+      sound = pre.sound;
+      listed = pre.listed;
+      capped = rest.capped;
+      bounds = bounds;
+      shares_len = rest.shares_len;
+    }
 
 pub returns : goal.returns
 returns c =

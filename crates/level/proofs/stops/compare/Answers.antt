@@ -11,7 +11,14 @@ unfolding sum_below
 write_adjusted-requires c =
     let pre = c.requires in
     let rest = pre in
-    record { sound = pre.sound; costed = pre.costed; listed = pre.listed; capped = rest.capped_2; needs_value = c.write_needs.ensures.out_after; out_len = rest.out_len }
+    record {
+      sound = pre.sound;
+      costed = pre.costed;
+      listed = pre.listed;
+      capped = rest.capped_2;
+      needs_value = c.write_needs.ensures.out_after;
+      out_len = rest.out_len;
+    }
 
 pub returns : goal.returns
 returns c =

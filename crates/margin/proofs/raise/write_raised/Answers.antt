@@ -27,22 +27,30 @@ loop-k-init c =
 
 pub bounds-counts-k : goal.bounds-counts-k
 bounds-counts-k c =
-    let place : c.loop-k.k - 1 - 1 < length c.args.parents.now = omega (arith, c.loop-k.invariant.4, c.loop-k-test.true) in
+    let place : c.loop-k.k - 1 - 1 < length c.args.parents.now =
+    omega (arith, c.loop-k.invariant.4, c.loop-k-test.true) in
     omega (arith, place, counts_sized c.loop-k.invariant.0)
 
 pub bounds-needs-k : goal.bounds-needs-k
 bounds-needs-k c =
-    let place : c.loop-k.k - 1 - 1 < length c.args.parents.now = omega (arith, c.loop-k.invariant.4, c.loop-k-test.true) in
+    let place : c.loop-k.k - 1 - 1 < length c.args.parents.now =
+    omega (arith, c.loop-k.invariant.4, c.loop-k-test.true) in
     omega (arith, place, needs_sized c.loop-k.invariant.0)
 
 pub own_need-own-requires : goal.own_need-own-requires
 own_need-own-requires c =
-    let place : c.loop-k.k - 1 - 1 < length c.args.parents.now = omega (arith, c.loop-k.invariant.4, c.loop-k-test.true) in
-    record { need_le_most_whole = need_fits c.loop-k.invariant.0 _ (place); margin_le_most_whole = c.loop-k.invariant.1 }
+    let place : c.loop-k.k - 1 - 1 < length c.args.parents.now =
+    omega (arith, c.loop-k.invariant.4, c.loop-k-test.true) in
+    record {
+      need_le_most_whole = need_fits c.loop-k.invariant.0 _ (place);
+      margin_le_most_whole = c.loop-k.invariant.1;
+    }
 
 pub overflow_add-below : goal.overflow_add-below
 overflow_add-below c =
-    let raised_here : let args = c.args in c.if_used-need.result ≡ raised (network_at args.parents.now args.costs.now args.vertices.now) args.margin (c.loop-k.k - 1) = let inv = c.loop-k.invariant in
+    let raised_here : let args =
+    c.args in c.if_used-need.result
+    ≡ raised (network_at args.parents.now args.costs.now args.vertices.now) args.margin (c.loop-k.k - 1) = let inv = c.loop-k.invariant in
     raising_at _ _ _ _ inv.0 (omega arith) (omega arith) inv.6 inv.2
     c.own_need-own.ensures c.greater_of.ensures c.if_used-need.ensures in
     let at = c.loop-k in
@@ -55,7 +63,9 @@ overflow_add-below c =
 
 pub loop-k-preserved : goal.loop-k-preserved
 loop-k-preserved c =
-    let raised_here : let args = c.args in c.if_used-need.result ≡ raised (network_at args.parents.now args.costs.now args.vertices.now) args.margin (c.loop-k.k - 1) = let inv = c.loop-k.invariant in
+    let raised_here : let args =
+    c.args in c.if_used-need.result
+    ≡ raised (network_at args.parents.now args.costs.now args.vertices.now) args.margin (c.loop-k.k - 1) = let inv = c.loop-k.invariant in
     raising_at _ _ _ _ inv.0 (omega arith) (omega arith) inv.6 inv.2
     c.own_need-own.ensures c.greater_of.ensures c.if_used-need.ensures in
     let inv = c.loop-k.invariant in (

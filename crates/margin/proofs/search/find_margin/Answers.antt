@@ -16,20 +16,23 @@ use Rattle.margin.proofs.search.find_margin.Goals as goal
 pub bounds-needs-arc : goal.bounds-needs-arc
 bounds-needs-arc c =
     let place : c.args.arc - 1 < length c.args.parents.now = omega (arith, c.requires.fact) in
-    let given : let args = c.args in Given args.parents.now args.costs.now args.vertices.now args.needs.now args.counts.now = let pre = c.requires in
+    let given : let args =
+    c.args in Given args.parents.now args.costs.now args.vertices.now args.needs.now args.counts.now = let pre = c.requires in
     record { sound = pre.sound; costed = pre.costed; listed = pre.listed; measured = pre.measured } in
     omega (arith, place, needs_sized (given))
 
 pub overflow_add-high : goal.overflow_add-high
 overflow_add-high c =
-    let given : let args = c.args in Given args.parents.now args.costs.now args.vertices.now args.needs.now args.counts.now = let pre = c.requires in
+    let given : let args =
+    c.args in Given args.parents.now args.costs.now args.vertices.now args.needs.now args.counts.now = let pre = c.requires in
     record { sound = pre.sound; costed = pre.costed; listed = pre.listed; measured = pre.measured } in
     let place : c.args.arc - 1 < length c.args.parents.now = omega (arith, c.requires.fact) in
     omega (arith, need_fits (given) _ (place))
 
 pub loop-low-init : goal.loop-low-init
 loop-low-init c =
-    let given : let args = c.args in Given args.parents.now args.costs.now args.vertices.now args.needs.now args.counts.now = let pre = c.requires in
+    let given : let args =
+    c.args in Given args.parents.now args.costs.now args.vertices.now args.needs.now args.counts.now = let pre = c.requires in
     record { sound = pre.sound; costed = pre.costed; listed = pre.listed; measured = pre.measured } in
     let place : c.args.arc - 1 < length c.args.parents.now = omega (arith, c.requires.fact) in
     let lists = given in
@@ -47,8 +50,11 @@ loop-low-preserved c =
     let args = c.args in
     raised (network_at args.parents.now args.costs.now args.vertices.now)
     (at.low + (at.high - at.low) / 2) in
-    let kept : length c.write_raised.new.out ≡ length c.args.parents.now = ap length c.write_raised.ensures ∙ list_length (raised_then) (length c.args.parents.now) in
-    let tried : let arc = c.args.arc in get_or c.write_raised.new.out (arc - 1) 0 ≡ raised_then arc = entry_of (length c.args.parents.now) (raised_then) c.write_raised.ensures
+    let kept : length c.write_raised.new.out ≡ length c.args.parents.now =
+    ap length c.write_raised.ensures ∙ list_length (raised_then) (length c.args.parents.now) in
+    let tried : let arc =
+    c.args.arc in get_or c.write_raised.new.out (arc - 1) 0
+    ≡ raised_then arc = entry_of (length c.args.parents.now) (raised_then) c.write_raised.ensures
     c.loop-low.invariant.1.high (omega arith) in
     let inv = c.loop-low.invariant in (
       inv.0,
@@ -62,4 +68,8 @@ loop-low-preserved c =
 pub returns : goal.returns
 returns c =
     let inv = c.loop-low.invariant in
-    let some = c.requires.arc_nonzero in record { value = between_end _ _ inv.0.sound.rising inv.1 some inv.4 (omega arith); out_after = c.write_raised-2.ensures }
+    let some = c.requires.arc_nonzero in
+    record {
+      value = between_end _ _ inv.0.sound.rising inv.1 some inv.4 (omega arith);
+      out_after = c.write_raised-2.ensures;
+    }

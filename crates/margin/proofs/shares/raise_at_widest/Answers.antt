@@ -9,4 +9,12 @@ find_margin-requires c =
     let needs_are = c.write_needs.ensures.out_after in
     let measured = lists_measured _ _ _ needs_are c.write_user_counts.ensures in
     let used = arc_used _ _ _ pre.sound pre.costed pre.listed _ rest.branched rest.vertices_nonzero in
-    record { sound = pre.sound; costed = pre.costed; listed = pre.listed; measured = measured; fact = rest.branched.arc; arc_nonzero = used; out_len = rest.out_len }
+    record {
+      sound = pre.sound;
+      costed = pre.costed;
+      listed = pre.listed;
+      measured = measured;
+      fact = rest.branched.arc;
+      arc_nonzero = used;
+      out_len = rest.out_len;
+    }

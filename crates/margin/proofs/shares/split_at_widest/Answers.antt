@@ -14,9 +14,11 @@ write_shares-requires c =
     let written = found.ensures.out_after in
     let filled = c.write_all.ensures in
     let as_many = found.auto.ones ∙ rest.caps_len in
-    let caps = ample_capped _ _ _ pre.sound pre.costed pre.listed _ rest.branched rest.vertices_nonzero is written filled
+    let caps =
+    ample_capped _ _ _ pre.sound pre.costed pre.listed _ rest.branched rest.vertices_nonzero is written filled
     as_many in
-    let bounds = raised_bounds _ _ _ pre.sound pre.costed pre.listed _ rest.branched rest.vertices_nonzero is written filled
+    let bounds =
+    raised_bounds _ _ _ pre.sound pre.costed pre.listed _ rest.branched rest.vertices_nonzero is written filled
     as_many in
     record { sound = pre.sound; listed = pre.listed; capped = caps; bounds = bounds; shares_len = rest.shares_len }
 
@@ -29,6 +31,7 @@ returns c =
     let written = found.ensures.out_after in
     let filled = c.write_all.ensures in
     let as_many = found.auto.ones ∙ rest.caps_len in
-    let at-raised = level_at_raised _ _ _ pre.sound pre.costed pre.listed _ rest.branched rest.vertices_nonzero is written filled
+    let at-raised =
+    level_at_raised _ _ _ pre.sound pre.costed pre.listed _ rest.branched rest.vertices_nonzero is written filled
     as_many in
     record { value = is; shares_after = c.write_shares.ensures ∙ at-raised }

@@ -17,4 +17,7 @@ pub returns : goal.returns
 returns c =
     let total = c.put_total-a.ensures in
     let search = c.put_search-b.ensures in
-    record { put = stands _ (put_then total.put search.put) c.if-b-at.false; upper_bound = omega (arith, total.upper_bound, search.upper_bound) }
+    record {
+      put = stands _ (put_then total.put search.put) c.if-b-at.false;
+      upper_bound = omega (arith, total.upper_bound, search.upper_bound);
+    }

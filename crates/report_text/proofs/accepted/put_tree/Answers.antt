@@ -14,7 +14,10 @@ pub put_audit-requires : goal.put_audit-requires
 put_audit-requires c =
     let pre = c.requires in
     let put = c.put_cost-next.ensures in
-    record { members_le_most_arcs = few_members _ _ pre.marks_value pre.proposed_len; at_in_bounds = omega (arith, pre, put.put.same_length, put.upper_bound) }
+    record {
+      members_le_most_arcs = few_members _ _ pre.marks_value pre.proposed_len;
+      at_in_bounds = omega (arith, pre, put.put.same_length, put.upper_bound);
+    }
 
 pub returns : goal.returns
 returns c =

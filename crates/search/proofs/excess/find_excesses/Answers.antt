@@ -37,7 +37,9 @@ overflow_add-amount c =
 
 pub overflow_add-below : goal.overflow_add-below
 overflow_add-below c =
-    let excess_here : let args = c.args in c.above-x.result ≡ excess args.parents.now args.costs.now args.marks.now args.proposal.now (c.loop-k.k - 1) = let inv = c.loop-k.invariant in
+    let excess_here : let args =
+    c.args in c.above-x.result
+    ≡ excess args.parents.now args.costs.now args.marks.now args.proposal.now (c.loop-k.k - 1) = let inv = c.loop-k.invariant in
     passing_excess _ _ _ _ inv.0 (omega arith) (omega arith) inv.4 c.one_if_marked-j.ensures
     c.share_here.ensures c.above-x.ensures in
     let at = c.loop-k in
@@ -49,7 +51,9 @@ overflow_add-below c =
 
 pub loop-k-preserved : goal.loop-k-preserved
 loop-k-preserved c =
-    let excess_here : let args = c.args in c.above-x.result ≡ excess args.parents.now args.costs.now args.marks.now args.proposal.now (c.loop-k.k - 1) = let inv = c.loop-k.invariant in
+    let excess_here : let args =
+    c.args in c.above-x.result
+    ≡ excess args.parents.now args.costs.now args.marks.now args.proposal.now (c.loop-k.k - 1) = let inv = c.loop-k.invariant in
     passing_excess _ _ _ _ inv.0 (omega arith) (omega arith) inv.4 c.one_if_marked-j.ensures
     c.share_here.ensures c.above-x.ensures in
     let inv = c.loop-k.invariant in (

@@ -19,7 +19,8 @@ loop-at-preserved c =
     let a = c.args in
     let i = c.loop-at.at in
     let long : length (take a.to a.xs.now) ≡ a.to = length-take-le a.to a.xs.now c.requires.to_in_bounds in
-    let here : get_or (take a.to a.xs.now) i 0 ≡ get_or a.xs.now i 0 = get_or-take a.to a.xs.now i 0 c.loop-at-test.true in
+    let here : get_or (take a.to a.xs.now) i 0 ≡ get_or a.xs.now i 0 =
+    get_or-take a.to a.xs.now i 0 c.loop-at-test.true in
     omega (arith, passes a.byte (take a.to a.xs.now) i (omega arith) (λ e. c.if-xs-at.false (omega arith)))
 
 pub returns-clause-value : goal.returns-clause-value

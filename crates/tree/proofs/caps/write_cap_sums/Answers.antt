@@ -2,7 +2,6 @@ use Prim.Native.Nat.{ℕ}
 use mathlib.Core.Path.{◌∙◌}
 use mathlib.Core.List.{List, []}
 use native.Mathlib.Omega.{arith}
-use borrow.Author.Rules.{rules}
 use Rattle.game.specs.Network.{Network, sum_below}
 use Rattle.tree.specs.Passes.{network_at}
 use Rattle.tree.proofs.CapPass.{member_count_lem, placed_sized, placed_fits, placed_total, placed_sums}

@@ -1,9 +1,6 @@
 use Prim.Native.Nat.{◌-◌}
-use mathlib.Core.Path.{refl}
-use native.Mathlib.Omega.{arith}
-use lib.ListN.{length, replicate, length-replicate, get_or-replicate}
-use borrow.Author.Rules.{rules}
-use Rattle.basics.proofs.Filling.{Filling, filling_start, filling_on, filling_end}
+use lib.ListN.{length}
+use Rattle.basics.proofs.Filling.{Filling}
 use Rattle.tree.proofs.constant.write_all.Given as goal
 
 abbrev pub invariant-loop-i : goal.invariant-loop-i

@@ -1,13 +1,10 @@
-use Prim.Native.Nat.{suc, ◌+◌, ◌-◌, ◌≤◌, ◌<◌}
+use Prim.Native.Nat.{◌-◌, ◌<◌}
 use mathlib.Core.Path.{◌≡◌, ◌∙◌}
-use lib.ListN.{length, get_or}
+use lib.ListN.{length}
 use native.Mathlib.Omega.{arith}
-use borrow.Author.Rules.{rules}
-use Rattle.basics.proofs.Bools.{pick_le}
 use Rattle.game.specs.Network.{everyone}
-use Rattle.tree.specs.Passes.{Sound, Costed, Marked}
 use Rattle.tree.proofs.UsePass.{in_use, using_at}
-use Rattle.tree.proofs.CountedPass.{Counting, counting_start, counting_on, counting_end}
+use Rattle.tree.proofs.CountedPass.{counting_start, counting_on, counting_end}
 use Rattle.tree.proofs.counted.write_counted.Goals as goal
 
 pub loop-k-init : goal.loop-k-init
@@ -24,8 +21,11 @@ loop-k-init c =
 
 pub loop-k-preserved : goal.loop-k-preserved
 loop-k-preserved c =
-    let place : c.loop-k.k - 1 - 1 < length c.args.parents.now = omega (arith, c.loop-k.invariant.4, c.loop-k-test.true) in
-    let here_used : let args = c.args in c.used_here-here.result ≡ in_use args.parents.now args.costs.now args.marks.now everyone (c.loop-k.k - 1) = let inv = c.loop-k.invariant in
+    let place : c.loop-k.k - 1 - 1 < length c.args.parents.now =
+    omega (arith, c.loop-k.invariant.4, c.loop-k-test.true) in
+    let here_used : let args =
+    c.args in c.used_here-here.result
+    ≡ in_use args.parents.now args.costs.now args.marks.now everyone (c.loop-k.k - 1) = let inv = c.loop-k.invariant in
     c.used_here-here.ensures
     ∙ using_at _ _ _ everyone inv.0 inv.2 (omega arith) (omega (arith, place)) inv.6.known in
     let inv = c.loop-k.invariant in (

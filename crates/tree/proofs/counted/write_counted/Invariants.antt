@@ -1,13 +1,8 @@
-use Prim.Native.Nat.{suc, ◌+◌, ◌-◌, ◌≤◌, ◌<◌}
-use mathlib.Core.Path.{◌≡◌, ◌∙◌}
-use lib.ListN.{length, get_or}
-use native.Mathlib.Omega.{arith}
-use borrow.Author.Rules.{rules}
-use Rattle.basics.proofs.Bools.{pick_le}
-use Rattle.game.specs.Network.{everyone}
+use Prim.Native.Nat.{◌+◌, ◌-◌, ◌≤◌, ◌<◌}
+use mathlib.Core.Path.{◌≡◌}
+use lib.ListN.{length}
 use Rattle.tree.specs.Passes.{Sound, Costed, Marked}
-use Rattle.tree.proofs.UsePass.{in_use, using_at}
-use Rattle.tree.proofs.CountedPass.{Counting, counting_start, counting_on, counting_end}
+use Rattle.tree.proofs.CountedPass.{Counting}
 use Rattle.tree.proofs.counted.write_counted.Given as goal
 
 abbrev pub invariant-loop-k : goal.invariant-loop-k

@@ -2,8 +2,7 @@ use mathlib.Core.Path.{◌∙◌}
 use mathlib.Core.List.{[]}
 use Rattle.tree.specs.Passes.{network_at}
 use Rattle.tree.proofs.Vertices.{vertices_count}
-use Rattle.tree.proofs.UserCounts.{ones_capped, ones_count}
-use borrow.Author.Rules.{rules}
+use Rattle.tree.proofs.UserCounts.{ones_count}
 use Rattle.tree.proofs.counts.write_user_counts.Goals as goal
 
 pub returns : goal.returns

@@ -1,16 +1,13 @@
-use Prim.Native.Nat.{ℕ, ◌+◌, ◌-◌, ◌≤◌, ◌<◌}
+use Prim.Native.Nat.{◌-◌, ◌≤◌, ◌<◌}
 use mathlib.Core.Path.{◌≡◌, ap, ◌∙◌}
 use mathlib.Core.Bool.{Bool, false, cond}
-use mathlib.Core.List.{List}
 use lib.ListN.{length, get_or}
 use lib.Dec.{eqb}
 use native.Mathlib.Omega.{arith}
-use borrow.Author.Rules.{rules}
 use Rattle.limits.specs.Limits.{most_arcs}
 use Rattle.basics.specs.Bit.{bit}
-use Rattle.tree.specs.Passes.{Sound, Costed, Marked}
-use Rattle.tree.proofs.GroupPass.{Costing, in_use, costing_start, costing_on, costing_end}
-use Rattle.tree.proofs.GroupPass.{costing_room, costing_few, costing_used, costing_fits}
+use Rattle.tree.proofs.GroupPass.{in_use, costing_start, costing_on}
+use Rattle.tree.proofs.GroupPass.{costing_few, costing_used, costing_fits}
 use Rattle.tree.proofs.group.cost_of.Goals as goal
 
 pub loop-k-init : goal.loop-k-init
@@ -32,9 +29,13 @@ bounds-words-j c =
 pub overflow_add-cost : goal.overflow_add-cost
 unfolding bit
 overflow_add-cost c =
-    let place : c.loop-k.k - 1 - 1 < length c.args.parents.now = omega (arith, c.loop-k.invariant.4, c.loop-k-test.true) in
-    let chosen_bit : c.bit_of-chosen.result ≡ bit c.args.words (c.loop-k.j - c.one_if_marked-j.result) = c.bit_of-chosen.ensures in
-    let here_used : let args = c.args in c.used_here-here.result ≡ in_use args.parents.now args.costs.now args.marks.now c.args.words (c.loop-k.k - 1) = let at = c.loop-k in
+    let place : c.loop-k.k - 1 - 1 < length c.args.parents.now =
+    omega (arith, c.loop-k.invariant.4, c.loop-k-test.true) in
+    let chosen_bit : c.bit_of-chosen.result ≡ bit c.args.words (c.loop-k.j - c.one_if_marked-j.result) =
+    c.bit_of-chosen.ensures in
+    let here_used : let args =
+    c.args in c.used_here-here.result
+    ≡ in_use args.parents.now args.costs.now args.marks.now c.args.words (c.loop-k.k - 1) = let at = c.loop-k in
     let marks = c.args.marks.now in
     c.used_here-here.ensures
     ∙ ap (λ (b : Bool). cond (eqb (get_or marks (at.k - 1 - 1) 0) 1) b (get_or at.used (at.k - 1) false))
@@ -51,9 +52,13 @@ overflow_add-cost c =
 pub loop-k-preserved : goal.loop-k-preserved
 unfolding bit
 loop-k-preserved c =
-    let place : c.loop-k.k - 1 - 1 < length c.args.parents.now = omega (arith, c.loop-k.invariant.4, c.loop-k-test.true) in
-    let chosen_bit : c.bit_of-chosen.result ≡ bit c.args.words (c.loop-k.j - c.one_if_marked-j.result) = c.bit_of-chosen.ensures in
-    let here_used : let args = c.args in c.used_here-here.result ≡ in_use args.parents.now args.costs.now args.marks.now c.args.words (c.loop-k.k - 1) = let at = c.loop-k in
+    let place : c.loop-k.k - 1 - 1 < length c.args.parents.now =
+    omega (arith, c.loop-k.invariant.4, c.loop-k-test.true) in
+    let chosen_bit : c.bit_of-chosen.result ≡ bit c.args.words (c.loop-k.j - c.one_if_marked-j.result) =
+    c.bit_of-chosen.ensures in
+    let here_used : let args =
+    c.args in c.used_here-here.result
+    ≡ in_use args.parents.now args.costs.now args.marks.now c.args.words (c.loop-k.k - 1) = let at = c.loop-k in
     let marks = c.args.marks.now in
     c.used_here-here.ensures
     ∙ ap (λ (b : Bool). cond (eqb (get_or marks (at.k - 1 - 1) 0) 1) b (get_or at.used (at.k - 1) false))

@@ -1,9 +1,7 @@
-use Prim.Native.Nat.{◌+◌, ◌-◌, ◌≤◌}
-use mathlib.Core.Path.{◌≡◌, refl, ap, ◌∙◌}
-use native.Mathlib.Omega.{arith}
-use borrow.Author.Rules.{rules}
+use Prim.Native.Nat.{◌-◌, ◌≤◌}
+use mathlib.Core.Path.{◌≡◌}
 use lib.ListN.{length}
-use Rattle.tree.proofs.MemberPass.{up_to, up_to_le, up_to_next}
+use Rattle.tree.proofs.MemberPass.{up_to}
 use Rattle.tree.proofs.members.count_members.Given as goal
 
 abbrev pub invariant-loop-i : goal.invariant-loop-i

@@ -1,10 +1,8 @@
 use Prim.Native.Nat.{◌-◌, ◌≤◌}
-use mathlib.Core.Path.{◌≡◌, refl, ◌∙◌}
-use native.Mathlib.Omega.{arith}
-use borrow.Author.Rules.{rules}
+use mathlib.Core.Path.{◌≡◌}
 use lib.ListN.{length}
 use Rattle.limits.specs.Limits.{most_arcs}
-use Rattle.tree.proofs.MemberPass.{up_to, up_to_le, Listing, listing_start, listing_room, listing_on, listing_end}
+use Rattle.tree.proofs.MemberPass.{up_to, Listing}
 use Rattle.tree.proofs.members.write_members.Given as goal
 
 abbrev pub invariant-loop-i : goal.invariant-loop-i

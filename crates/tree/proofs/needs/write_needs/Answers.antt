@@ -1,9 +1,8 @@
 use Prim.Native.Nat.{ℕ}
-use mathlib.Core.Path.{◌≡◌, sym, ap, ◌∙◌}
+use mathlib.Core.Path.{◌≡◌, ap, ◌∙◌}
 use mathlib.Core.List.{List, []}
 use lib.ListN.{length}
 use native.Mathlib.Omega.{arith}
-use borrow.Author.Rules.{rules}
 use Rattle.basics.specs.Sum.{sum, list}
 use Rattle.game.specs.Network.{sum_below, need, whole_cost}
 use Rattle.game.specs.Tree.{network_of, of_arc}
@@ -29,11 +28,19 @@ pub add_up-requires : goal.add_up-requires
 add_up-requires c =
     let pre = c.requires in
     let costed = pre.costed in
-    let copied = c.widen.ensures in record { sound = pre.sound; out_len = ap length copied ∙ costed.sized; out_bound = omega (arith, all_sum _ _ costed copied, costs_bound _ _ pre.sound costed) }
+    let copied = c.widen.ensures in
+    record {
+      sound = pre.sound;
+      out_len = ap length copied ∙ costed.sized;
+      out_bound = omega (arith, all_sum _ _ costed copied, costs_bound _ _ pre.sound costed);
+    }
 
 pub returns : goal.returns
 returns c =
     let costed = c.requires.costed in
     let copied = c.widen.ensures in
     let sums = c.add_up.ensures in
-    record { value = sums.value ∙ whole_sum _ _ costed copied; out_after = sums.out_after ∙ sums_needs _ _ costed copied }
+    record {
+      value = sums.value ∙ whole_sum _ _ costed copied;
+      out_after = sums.out_after ∙ sums_needs _ _ costed copied;
+    }

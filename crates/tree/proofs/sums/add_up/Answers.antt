@@ -1,13 +1,11 @@
-use Prim.Native.Nat.{ℕ, ◌+◌, ◌-◌, ◌≤◌, ◌<◌}
+use Prim.Native.Nat.{ℕ, ◌+◌, ◌-◌}
 use mathlib.Core.Path.{◌≡◌, sym, ap, ◌∙◌}
-use lib.ListN.{length, get_or}
+use lib.ListN.{get_or}
 use native.Mathlib.Omega.{arith}
-use borrow.Author.Rules.{rules}
 use Rattle.basics.specs.Sum.{sum}
 use Rattle.game.specs.Tree.{of_arc}
-use Rattle.tree.specs.Passes.{Sound}
 use Rattle.tree.proofs.InwardPass.{passing_end}
-use Rattle.tree.proofs.SumPass.{total, Summing, summing_start, summing_on}
+use Rattle.tree.proofs.SumPass.{total, summing_start, summing_on}
 use Rattle.tree.proofs.SumPass.{summing_at, summing_fits, summing_carry, summing_whole}
 use Rattle.tree.proofs.sums.add_up.Goals as goal
 
@@ -18,7 +16,9 @@ loop-k-init c =
 
 pub overflow_add-total : goal.overflow_add-total
 overflow_add-total c =
-    let sum_here : let at = c.loop-k in let args = c.args in get_or at.below (at.k - 1) 0 + get_or at.out (at.k - 1 - 1) 0 ≡ total args.parents.now args.out.now (at.k - 1) = let inv = c.loop-k.invariant in
+    let sum_here : let at =
+    c.loop-k in let args = c.args in get_or at.below (at.k - 1) 0 + get_or at.out (at.k - 1 - 1) 0
+    ≡ total args.parents.now args.out.now (at.k - 1) = let inv = c.loop-k.invariant in
     summing_at _ _ inv.0 _ _ (omega arith) (omega arith) inv.4 in
     let at = c.loop-k in
     let i = at.k - 1 - 1 in
@@ -26,7 +26,9 @@ overflow_add-total c =
 
 pub overflow_add-below : goal.overflow_add-below
 overflow_add-below c =
-    let sum_here : let at = c.loop-k in let args = c.args in get_or at.below (at.k - 1) 0 + get_or at.out (at.k - 1 - 1) 0 ≡ total args.parents.now args.out.now (at.k - 1) = let inv = c.loop-k.invariant in
+    let sum_here : let at =
+    c.loop-k in let args = c.args in get_or at.below (at.k - 1) 0 + get_or at.out (at.k - 1 - 1) 0
+    ≡ total args.parents.now args.out.now (at.k - 1) = let inv = c.loop-k.invariant in
     summing_at _ _ inv.0 _ _ (omega arith) (omega arith) inv.4 in
     let at = c.loop-k in
     let i = at.k - 1 - 1 in
@@ -34,7 +36,9 @@ overflow_add-below c =
 
 pub loop-k-preserved : goal.loop-k-preserved
 loop-k-preserved c =
-    let sum_here : let at = c.loop-k in let args = c.args in get_or at.below (at.k - 1) 0 + get_or at.out (at.k - 1 - 1) 0 ≡ total args.parents.now args.out.now (at.k - 1) = let inv = c.loop-k.invariant in
+    let sum_here : let at =
+    c.loop-k in let args = c.args in get_or at.below (at.k - 1) 0 + get_or at.out (at.k - 1 - 1) 0
+    ≡ total args.parents.now args.out.now (at.k - 1) = let inv = c.loop-k.invariant in
     summing_at _ _ inv.0 _ _ (omega arith) (omega arith) inv.4 in
     let inv = c.loop-k.invariant in (
       inv.0,
@@ -47,4 +51,8 @@ loop-k-preserved c =
 pub returns : goal.returns
 returns c =
     let inv = c.loop-k.invariant in
-    let xs = c.args.out.now in record { value = summing_whole _ _ inv.0 (omega arith) inv.4 ∙ ap (λ (m : ℕ). sum m (of_arc xs)) (sym c.requires.out_len); out_after = passing_end _ _ (omega arith) inv.4.passing }
+    let xs = c.args.out.now in
+    record {
+      value = summing_whole _ _ inv.0 (omega arith) inv.4 ∙ ap (λ (m : ℕ). sum m (of_arc xs)) (sym c.requires.out_len);
+      out_after = passing_end _ _ (omega arith) inv.4.passing;
+    }

@@ -1,14 +1,9 @@
-use Prim.Native.Nat.{ℕ, ◌+◌, ◌-◌, ◌≤◌, ◌<◌}
-use mathlib.Core.Path.{◌≡◌, sym, ap, ◌∙◌}
-use lib.ListN.{length, get_or}
-use native.Mathlib.Omega.{arith}
-use borrow.Author.Rules.{rules}
+use Prim.Native.Nat.{◌+◌, ◌-◌, ◌≤◌, ◌<◌}
+use lib.ListN.{length}
 use Rattle.basics.specs.Sum.{sum}
 use Rattle.game.specs.Tree.{of_arc}
 use Rattle.tree.specs.Passes.{Sound}
-use Rattle.tree.proofs.InwardPass.{passing_end}
-use Rattle.tree.proofs.SumPass.{total, Summing, summing_start, summing_on}
-use Rattle.tree.proofs.SumPass.{summing_at, summing_fits, summing_carry, summing_whole}
+use Rattle.tree.proofs.SumPass.{Summing}
 use Rattle.tree.proofs.sums.add_up.Given as goal
 
 abbrev pub invariant-loop-k : goal.invariant-loop-k

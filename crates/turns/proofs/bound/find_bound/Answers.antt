@@ -16,7 +16,13 @@ pub guess-number-requires : goal.guess-number-requires
 guess-number-requires c =
     let inv = c.loop-under.invariant in
     let b = inv.2 in
-    record { low_lt_high = bracket_order _ _ b; high_le_key_limit = b.limit; under_lt_more = c.loop-under-test.true; more_lt_over = b.too_many; more_le_most_arcs = omega (arith, inv.0.few, inv.1) }
+    record {
+      low_lt_high = bracket_order _ _ b;
+      high_le_key_limit = b.limit;
+      under_lt_more = c.loop-under-test.true;
+      more_lt_over = b.too_many;
+      more_le_most_arcs = omega (arith, inv.0.few, inv.1);
+    }
 
 pub inside-middle-requires : goal.inside-middle-requires
 inside-middle-requires c =
