@@ -7,7 +7,7 @@ use Rattle.proposal.proofs.parts_of.Given as goal
 
 abbrev pub invariant-loop-i : goal.invariant-loop-i
 invariant-loop-i l = (l.i ≤ length l.proposal) × (l.above ≡ part_sum plus l.proposal l.i)
-× (l.below ≡ part_sum minus l.proposal l.i)
+    × (l.below ≡ part_sum minus l.proposal l.i)
 
 abbrev pub decreases-loop-i : goal.decreases-loop-i
 decreases-loop-i l = length l.proposal - l.i

@@ -13,7 +13,7 @@ read_on (Some x) (Some y) None s t p q = absurd q
 read_on (Some x) (Some y) (Some z) s t p q = p ∙ ap (λ (l : List ℕ). s ++ l) q ∙ sym (append_assoc s t z)
 
 take_split : (a b : ℕ) (old new : List ℕ) → a ≤ b → take a new ≡ take a old → take a old ++ slice_range new a b
-≡ take b new
+    ≡ take b new
 take_split a b old new h front =
     let same : a + (b - a) ≡ b = omega arith in
     ap (λ (l : List ℕ). l ++ slice_range new a b) (sym front)

@@ -4,8 +4,9 @@ use Rattle.capi.proofs.ReadBack.{stands_for, group_back}
 use Rattle.capi.proofs.group.zilqodur_group_cost.Goals as goal
 
 pub returns : goal.returns
-returns c = let it = stands_for encode_group decode_group c.encode.ensures c.group_cost.ensures (group_back _ _) in
-record {
-  result_value = it.0;
-  value = it.1;
-}
+returns c =
+    let it = stands_for encode_group decode_group c.encode.ensures c.group_cost.ensures (group_back _ _) in
+    record {
+      result_value = it.0;
+      value = it.1;
+    }

@@ -6,7 +6,7 @@ use Rattle.checks.proofs.proposal.check_shares.Given as goal
 
 abbrev pub invariant-loop-i : goal.invariant-loop-i
 invariant-loop-i l = (l.i ≤ length l.proposal)
-× (range_check outside_share 0 l.proposal ≡ range_check outside_share l.i (drop l.i l.proposal))
+    × (range_check outside_share 0 l.proposal ≡ range_check outside_share l.i (drop l.i l.proposal))
 
 abbrev pub decreases-loop-i : goal.decreases-loop-i
 decreases-loop-i l = length l.proposal - l.i

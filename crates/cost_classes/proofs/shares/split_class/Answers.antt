@@ -23,13 +23,14 @@ slice_bounds-counted-end c =
     (accepted_sound (tree) c.requires.marks_value).few
 
 pub write_counted-requires : goal.write_counted-requires
-write_counted-requires c = let it = counted_lent _ c.requires.marks_value in
-record {
-  sound = it.0;
-  costed = it.1.0;
-  marked = it.1.1.0;
-  out_len = it.1.1.1;
-}
+write_counted-requires c =
+    let it = counted_lent _ c.requires.marks_value in
+    record {
+      sound = it.0;
+      costed = it.1.0;
+      marked = it.1.1.0;
+      out_len = it.1.1.1;
+    }
 
 pub write_by_arc-requires : goal.write_by_arc-requires
 write_by_arc-requires c =

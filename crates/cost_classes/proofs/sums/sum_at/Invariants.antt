@@ -13,7 +13,7 @@ use Rattle.cost_classes.proofs.sums.sum_at.Given as goal
 
 abbrev pub invariant-loop-c : goal.invariant-loop-c
 invariant-loop-c l = (l.c ≤ l.classes) × (l.total ≤ l.c * 4294967295)
-× (l.total ≡ sum₀ l.c (λ d. of_arc (part l.m d l.costs) (suc l.i)))
+    × (l.total ≡ sum₀ l.c (λ d. of_arc (part l.m d l.costs) (suc l.i)))
 
 abbrev pub decreases-loop-c : goal.decreases-loop-c
 decreases-loop-c l = l.classes - l.c

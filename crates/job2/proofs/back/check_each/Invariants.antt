@@ -15,7 +15,7 @@ use Rattle.job2.proofs.back.check_each.Given as goal
 
 abbrev pub invariant-loop-i : goal.invariant-loop-i
 invariant-loop-i l = (l.i ≤ length l.floors)
-× (one_by_one (λ k. fault (ltb 0 (of_arc l.floors k)) 30 (pred k)) l.i ≡ accepted)
+    × (one_by_one (λ k. fault (ltb 0 (of_arc l.floors k)) 30 (pred k)) l.i ≡ accepted)
 
 abbrev pub decreases-loop-i : goal.decreases-loop-i
 decreases-loop-i l = length l.floors - l.i

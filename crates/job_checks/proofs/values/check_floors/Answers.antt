@@ -5,11 +5,12 @@ use Rattle.job_checks.proofs.values.check_floors.Goals as goal
 
 pub check_limits-requires : goal.check_limits-requires
 unfolding floor_width
-check_limits-requires c = let rows = rw c.in-Two.is at c.requires.members_in_bounds in
-record {
-  members_in_bounds = rows;
-  members_le_most_arcs = c.requires.members_le_most_arcs;
-}
+check_limits-requires c =
+    let rows = rw c.in-Two.is at c.requires.members_in_bounds in
+    record {
+      members_in_bounds = rows;
+      members_le_most_arcs = c.requires.members_le_most_arcs;
+    }
 
 pub returns-in-One : goal.returns-in-One
 returns-in-One c =

@@ -27,8 +27,9 @@ loop-i-preserved c =
     c.link_after.ensures c.one_if_open-next.ensures
 
 pub returns : goal.returns
-returns c = let inv = c.loop-i.invariant in
-record {
-  upper_bound = omega (arith, inv.front, inv.within);
-  kept = keeping_end _ _ _ _ _ _ _ inv (omega (arith, inv.order_sized, c.loop-i-test.false));
-}
+returns c =
+    let inv = c.loop-i.invariant in
+    record {
+      upper_bound = omega (arith, inv.front, inv.within);
+      kept = keeping_end _ _ _ _ _ _ _ inv (omega (arith, inv.order_sized, c.loop-i-test.false));
+    }

@@ -7,7 +7,7 @@ use Rattle.tree.proofs.placed.write_at_members.Given as goal
 
 abbrev pub invariant-loop-j : goal.invariant-loop-j
 invariant-loop-j l = Sound l.parents × Listed l.parents l.vertices
-× Placing (network_at l.parents [] l.vertices) l.values l.out l.j
+    × Placing (network_at l.parents [] l.vertices) l.values l.out l.j
 
 abbrev pub decreases-loop-j : goal.decreases-loop-j
 decreases-loop-j l = length l.vertices - l.j
