@@ -1,5 +1,7 @@
 // The public entries for C: each calls one entry and answers a struct of numbers. A refusal of 0 means that there is
 // none.
+#![tactic(auto)]
+
 mod by_arc_split;
 mod cap_sums;
 mod check;

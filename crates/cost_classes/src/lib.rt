@@ -1,4 +1,6 @@
 // Cost classes: the check of a tree with costs in classes, and each class split by arc by itself.
+#![tactic(auto)]
+
 mod check;
 mod shares;
 mod sums;

@@ -1,4 +1,6 @@
 // The public entries over lists as they are handed in. Each answers its value or a refusal by number and place.
+#![tactic(auto)]
+
 mod by_arc_split;
 mod cap_sums;
 mod class_split;

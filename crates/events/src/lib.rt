@@ -1,5 +1,7 @@
 // States of a network, and the events that change them. A state holds a tree and its by-arc shares by value. An event
 // is asked for first, and the quote that this gives is committed.
+#![tactic(auto)]
+
 mod apply;
 mod asking;
 mod changes;

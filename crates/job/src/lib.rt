@@ -1,4 +1,6 @@
 // The public entries over a job's bytes of version 1: the reader here, the writer in `writer`.
+#![tactic(auto)]
+
 mod writer;
 
 ghost use Rattle.std.specs.Prelude.{◌≡◌};

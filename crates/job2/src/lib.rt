@@ -1,4 +1,6 @@
 // The public entries over a job's bytes of version 2: the reader here, the conversions in `converter`.
+#![tactic(auto)]
+
 mod back;
 mod converter;
 

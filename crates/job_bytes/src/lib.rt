@@ -1,4 +1,6 @@
 // The numbers in a job's bytes, its trailer and its rows, of either version: read into lists, and written from lists.
+#![tactic(auto)]
+
 mod columns;
 mod number;
 mod put_parts;

@@ -1,4 +1,6 @@
 // The checks of a job's bytes in a version, and the values of a job that was accepted.
+#![tactic(auto)]
+
 mod contents;
 mod members;
 mod room;

@@ -1,4 +1,6 @@
 // The form of a job in a version: its size, its signature, its layout, and its fillers, which in version 2 are marks.
+#![tactic(auto)]
+
 ghost use Rattle.std.specs.Prelude.{◌≡◌, not, ◌+◌, ◌*◌, ◌≤◌, length, eqb, ltb};
 ghost use Rattle.answer_forms.specs.Answer.{fault};
 ghost use Rattle.answer_forms.specs.Checked.{check_of};

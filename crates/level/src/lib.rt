@@ -1,4 +1,6 @@
 // The level split: the adjusted needs, what stops the split, and the shares where nothing does.
+#![tactic(auto)]
+
 mod adjusted;
 mod shares;
 mod stops;

@@ -1,4 +1,6 @@
 // The step from a parent list to the next one of as many arcs, in the list itself.
+#![tactic(auto)]
+
 ghost use Rattle.std.specs.Prelude.{◌≡◌, true, false, ℕ, suc, ◌<◌, ◌≤◌, length, leb};
 ghost use Rattle.std.proofs.Math.Option.{Option-elim, get_or};
 ghost use Rattle.basics.specs.Sum.{pick, list};

@@ -1,4 +1,6 @@
 // The lines of a report, each written into a lent buffer at a place.
+#![tactic(auto)]
+
 mod audit;
 mod line;
 mod member;

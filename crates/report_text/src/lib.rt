@@ -1,4 +1,6 @@
 // The report on a job as text, written into a lent buffer.
+#![tactic(auto)]
+
 mod accepted;
 
 ghost use Rattle.std.specs.Prelude.{◌≡◌, ◌≤◌, length};

@@ -1,5 +1,7 @@
 // The group search: of all groups the one that overpays most, and of those the one with fewest members, in two
 // passes over the tree.
+#![tactic(auto)]
+
 mod active;
 mod excess;
 

@@ -1,6 +1,8 @@
 // The units that one arc leaves over, given to its users in turn. A user is its key, tally * base + number: the tally
 // is how many such units it has had at the arcs handled so far, and base is above every number. So the smaller key is
 // served first.
+#![tactic(auto)]
+
 mod bound;
 mod count;
 mod ends;

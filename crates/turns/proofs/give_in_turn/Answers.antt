@@ -1,5 +1,4 @@
 use native.Mathlib.Omega.{arith}
-use borrow.Author.Rules.{rules}
 use Rattle.turns.proofs.Served.{handed_back, none_left}
 use Rattle.turns.proofs.give_in_turn.Goals as goal
 

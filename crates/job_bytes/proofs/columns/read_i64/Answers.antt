@@ -1,12 +1,8 @@
 use mathlib.Core.Path.{ap, ◌∙◌}
 use mir.Syntax.{w64}
 use mir.Facts.{to_z-of_z}
-use Prim.Native.Nat.{◌-◌}
-use native.Mathlib.Omega.{arith}
 use Rattle.numbers.specs.Signed.{signed64}
-use Rattle.job_bytes.specs.Format.{column}
-use Rattle.job_bytes.proofs.Entries.{Front, front_start, front_on, front_end}
-use borrow.Author.Rules.{rules}
+use Rattle.job_bytes.proofs.Entries.{front_start, front_on}
 use Rattle.job_bytes.proofs.columns.read_i64.Goals as goal
 
 pub loop-i-init : goal.loop-i-init

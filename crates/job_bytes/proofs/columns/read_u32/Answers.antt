@@ -1,8 +1,4 @@
-use Prim.Native.Nat.{◌-◌}
-use native.Mathlib.Omega.{arith}
-use Rattle.job_bytes.specs.Format.{column}
-use Rattle.job_bytes.proofs.Entries.{Front, front_start, front_on, front_end}
-use borrow.Author.Rules.{rules}
+use Rattle.job_bytes.proofs.Entries.{front_start, front_on}
 use Rattle.job_bytes.proofs.columns.read_u32.Goals as goal
 
 pub loop-i-init : goal.loop-i-init

@@ -1,7 +1,6 @@
 use Prim.Native.Nat.{◌<◌}
 use native.Mathlib.Omega.{arith}
-use borrow.Author.Rules.{rules}
-use Rattle.job_bytes.proofs.Reading.{Reading, reading_start, reading_room, reading_on, reading_end}
+use Rattle.job_bytes.proofs.Reading.{reading_start, reading_room, reading_on}
 use Rattle.job_bytes.proofs.number.number_at.Goals as goal
 
 pub loop-i-init : goal.loop-i-init

@@ -1,7 +1,4 @@
-use Prim.Native.Nat.{◌<◌}
-use native.Mathlib.Omega.{arith}
-use borrow.Author.Rules.{rules}
-use Rattle.job_bytes.proofs.Reading.{Reading, reading_start, reading_room, reading_on, reading_end}
+use Rattle.job_bytes.proofs.Reading.{Reading}
 use Rattle.job_bytes.proofs.number.number_at.Given as goal
 
 abbrev pub invariant-loop-i : goal.invariant-loop-i

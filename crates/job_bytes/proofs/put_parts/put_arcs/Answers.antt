@@ -1,11 +1,8 @@
-use Prim.Native.Nat.{◌-◌}
 use mathlib.Core.Path.{refl}
 use native.Mathlib.Omega.{arith}
-use lib.ListN.{length, get_or}
-use Rattle.buffer.proofs.Listing.{Listed, listed_start, listed_on, listed_end}
-use Rattle.job_bytes.specs.JobBytes.{rows, arc_row}
+use Rattle.buffer.proofs.Listing.{listed_start, listed_on, listed_end}
+use Rattle.job_bytes.specs.JobBytes.{rows}
 use Rattle.job_bytes.proofs.Parts.{arc_rows_length}
-use borrow.Author.Rules.{rules}
 use Rattle.job_bytes.proofs.put_parts.put_arcs.Goals as goal
 
 pub loop-i-init : goal.loop-i-init

@@ -1,11 +1,7 @@
 use Prim.Native.Nat.{◌-◌}
-use mathlib.Core.Path.{refl}
-use native.Mathlib.Omega.{arith}
 use lib.ListN.{length, get_or}
-use Rattle.buffer.proofs.Listing.{Listed, listed_start, listed_on, listed_end}
+use Rattle.buffer.proofs.Listing.{Listed}
 use Rattle.job_bytes.specs.JobBytes.{rows, arc_row}
-use Rattle.job_bytes.proofs.Parts.{arc_rows_length}
-use borrow.Author.Rules.{rules}
 use Rattle.job_bytes.proofs.put_parts.put_arcs.Given as goal
 
 abbrev pub invariant-loop-i : goal.invariant-loop-i

@@ -1,6 +1,5 @@
 use Rattle.job_bytes.specs.JobBytes.{contents, filled_with}
 use Rattle.job_bytes.proofs.Putting.{job_put}
-use borrow.Author.Rules.{rules}
 use Rattle.job_bytes.proofs.put_parts.put_job.Goals as goal
 
 pub returns : goal.returns

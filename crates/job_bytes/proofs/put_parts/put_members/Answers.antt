@@ -1,16 +1,12 @@
-use Prim.Native.Nat.{◌-◌}
 use mathlib.Core.Path.{refl}
-use native.Mathlib.Nat.{mul-le-mul_left}
 use native.Mathlib.Omega.{arith}
 use lib.ListN.{length, replicate}
 use mir.Syntax.{w64}
 use mir.Facts.{to_z-of_z}
-use Rattle.buffer.proofs.Listing.{Listed, listed_start, listed_on, listed_end}
-use Rattle.job_bytes.specs.Versions.{member_width}
+use Rattle.buffer.proofs.Listing.{listed_start, listed_on, listed_end}
 use Rattle.job_bytes.specs.JobBytes.{rows}
 use Rattle.job_bytes.proofs.Parts.{member_rows_length}
-use Rattle.job_bytes.proofs.Putting.{floorless, member_more}
-use borrow.Author.Rules.{rules}
+use Rattle.job_bytes.proofs.Putting.{member_more}
 use Rattle.job_bytes.proofs.put_parts.put_members.Goals as goal
 
 pub loop-j-init : goal.loop-j-init

@@ -1,6 +1,5 @@
 use Rattle.limits.specs.Limits.{most_arcs}
 use Rattle.job_bytes.proofs.Zeros.{zeros_part}
-use borrow.Author.Rules.{rules}
 use Rattle.job_bytes.proofs.put_parts.put_plain.Goals as goal
 
 pub returns : goal.returns

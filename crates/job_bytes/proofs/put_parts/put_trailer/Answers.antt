@@ -1,6 +1,5 @@
 use Rattle.buffer.proofs.Pieces.{put_then}
 use Rattle.job_bytes.specs.JobBytes.{trailer}
-use borrow.Author.Rules.{rules}
 use Rattle.job_bytes.proofs.put_parts.put_trailer.Goals as goal
 
 pub returns : goal.returns

@@ -1,5 +1,4 @@
 use native.Mathlib.Omega.{arith}
-use borrow.Author.Rules.{rules}
 use Rattle.buffer.proofs.Pieces.{put_then}
 use Rattle.job_bytes.specs.JobBytes.{arc_row}
 use Rattle.job_bytes.proofs.put_rows.put_arc.Goals as goal

@@ -2,7 +2,6 @@ use native.Mathlib.Omega.{arith}
 use mir.Facts.{to_z-of_z}
 use Rattle.buffer.proofs.Pieces.{put_then}
 use Rattle.job_bytes.specs.JobBytes.{member_row}
-use borrow.Author.Rules.{rules}
 use Rattle.job_bytes.proofs.put_rows.put_member.Goals as goal
 
 pub returns : goal.returns

@@ -1,7 +1,5 @@
-use Prim.Native.Nat.{◌-◌}
 use mathlib.Core.Path.{refl}
-use borrow.Author.Rules.{rules}
-use Rattle.job_bytes.proofs.Putting.{Putting, putting_start, putting_on, putting_end}
+use Rattle.job_bytes.proofs.Putting.{putting_on, putting_end}
 use Rattle.job_bytes.proofs.put_rows.put_number.Goals as goal
 
 pub loop-i-preserved : goal.loop-i-preserved

@@ -1,7 +1,5 @@
 use Prim.Native.Nat.{◌-◌}
-use mathlib.Core.Path.{refl}
-use borrow.Author.Rules.{rules}
-use Rattle.job_bytes.proofs.Putting.{Putting, putting_start, putting_on, putting_end}
+use Rattle.job_bytes.proofs.Putting.{Putting}
 use Rattle.job_bytes.proofs.put_rows.put_number.Given as goal
 
 abbrev pub invariant-loop-i : goal.invariant-loop-i

@@ -1,5 +1,4 @@
 use native.Mathlib.Omega.{arith}
-use borrow.Author.Rules.{rules}
 use Rattle.job_bytes.specs.Format.{arc_offset, member_offset, job_arcs, job_members}
 use Rattle.job_bytes.proofs.trailer.read_trailer.Goals as goal
 

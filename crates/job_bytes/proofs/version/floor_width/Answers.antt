@@ -1,5 +1,4 @@
 use native.Mathlib.Omega.{arith}
-use borrow.Author.Rules.{rules}
 use Rattle.job_bytes.specs.Versions.{floor_width}
 use Rattle.job_bytes.proofs.version.floor_width.Goals as goal
 

@@ -1,4 +1,3 @@
-use borrow.Author.Rules.{rules}
 use Rattle.job_bytes.specs.Versions.{version_number}
 use Rattle.job_bytes.proofs.version.version_number.Goals as goal
 

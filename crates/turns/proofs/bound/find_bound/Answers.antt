@@ -1,10 +1,5 @@
-use Prim.Native.Nat.{◌+◌, ◌-◌, ◌<◌}
-use mathlib.Core.Path.{◌∙◌}
 use native.Mathlib.Omega.{arith}
-use borrow.Author.Rules.{rules}
-use lib.ListN.{length}
-use Rattle.turns.specs.Keys.{Keys}
-use Rattle.turns.proofs.Narrowing.{Bracket, bracket_start, bracket_order, bracket_wide, bracket_on}
+use Rattle.turns.proofs.Narrowing.{bracket_start, bracket_order, bracket_wide}
 use Rattle.turns.proofs.bound.find_bound.Goals as goal
 
 pub loop-under-init : goal.loop-under-init

@@ -1,10 +1,7 @@
-use Prim.Native.Nat.{◌+◌, ◌-◌, ◌<◌}
-use mathlib.Core.Path.{◌∙◌}
-use native.Mathlib.Omega.{arith}
-use borrow.Author.Rules.{rules}
+use Prim.Native.Nat.{◌-◌, ◌<◌}
 use lib.ListN.{length}
 use Rattle.turns.specs.Keys.{Keys}
-use Rattle.turns.proofs.Narrowing.{Bracket, bracket_start, bracket_order, bracket_wide, bracket_on}
+use Rattle.turns.proofs.Narrowing.{Bracket}
 use Rattle.turns.proofs.bound.find_bound.Given as goal
 
 abbrev pub invariant-loop-under : goal.invariant-loop-under

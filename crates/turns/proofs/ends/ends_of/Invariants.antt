@@ -1,9 +1,7 @@
 use Prim.Native.Nat.{◌-◌, ◌≤◌}
-use native.Mathlib.Omega.{arith}
-use borrow.Author.Rules.{rules}
 use lib.ListN.{length}
 use Rattle.turns.specs.Keys.{Keys}
-use Rattle.turns.proofs.Loops.{Ending, ending_start, ending_on, ending_end}
+use Rattle.turns.proofs.Loops.{Ending}
 use Rattle.turns.proofs.ends.ends_of.Given as goal
 
 abbrev pub invariant-loop-i : goal.invariant-loop-i

@@ -1,10 +1,8 @@
 use Prim.Native.Nat.{◌-◌, ◌≤◌}
-use native.Mathlib.Omega.{arith}
-use borrow.Author.Rules.{rules}
 use lib.ListN.{length}
 use Rattle.limits.specs.Limits.{most_arcs}
 use Rattle.turns.specs.Keys.{Keys}
-use Rattle.turns.proofs.Loops.{Raising, raising_start, raising_on, raising_end}
+use Rattle.turns.proofs.Loops.{Raising}
 use Rattle.turns.proofs.raise.raise_below.Given as goal
 
 abbrev pub invariant-loop-i : goal.invariant-loop-i
