@@ -1,12 +1,12 @@
 -- A loop that copies a list into the front of another, entry by entry.
-use Prim.Native.Nat.{ℕ, ◌+◌, ◌<◌, ◌≤◌}
-use mathlib.Core.Path.{◌≡◌, sym, ap, ◌∙◌}
+use Prim.Native.Nat.{ℕ, ◌+◌, ◌-◌, ◌<◌, ◌≤◌}
+use mathlib.Core.Path.{◌≡◌, refl, sym, ap, ◌∙◌}
 use mathlib.Core.List.{List}
-use native.Mathlib.Nat.{zero-add}
+use native.Mathlib.Nat.{zero-add, sub-zero}
 use native.Mathlib.Numerals.{add-one}
 use native.Mathlib.Omega.{arith}
-use lib.ListN.{length, get_or, set, length-set}
-use lib.Seq.{paste, paste-suc}
+use lib.ListN.{length, get_or, set, take, length-set}
+use lib.Seq.{paste, paste-zero, paste-suc, take-paste, take-length}
 
 -- the first i of n entries of s are copied into d, which is now `list`
 pub record Copied {A : Type 0} (s d : List A) (n i : ℕ) (list : List A) : Type 0 where
@@ -15,6 +15,14 @@ pub record Copied {A : Type 0} (s d : List A) (n i : ℕ) (list : List A) : Type
   pub copied : list ≡ paste d 0 s i
 
 module _ {A : Type 0} (s d : List A) (n : ℕ) where
+  -- where the loop begins
+  pub copied_none : Copied s d n 0 d
+  copied_none = record {
+    long = refl;
+    within = omega arith;
+    copied = paste-zero d 0 s;
+  }
+
   -- a turn
   pub copied_more : {i : ℕ} {list : List A} (v z : A) → n ≤ length s → n ≤ length d → Copied s d n i list
       → i < n → v ≡ get_or s i z → Copied s d n (i + 1) (set list i v)
@@ -27,3 +35,16 @@ module _ {A : Type 0} (s d : List A) (n : ℕ) where
         ∙ paste-suc d 0 s i z (omega arith) (omega arith)
         ∙ ap (paste d 0 s) (sym (add-one i));
   }
+
+  -- where it ends
+  pub copied_all : {i : ℕ} {list : List A} → Copied s d n i list → n ≤ i → list ≡ paste d 0 s n
+  copied_all {i} c h =
+      let all : i ≡ n = omega arith in
+      c.copied ∙ ap (paste d 0 s) all
+
+-- the part of a list that all of s is copied into is s
+pub copied_part : {A : Type 0} (s d : List A) → take (length s - 0) (paste d 0 s (length s)) ≡ s
+copied_part s d =
+    ap (λ (n : ℕ). take n (paste d 0 s (length s))) (sub-zero (length s) ∙ sym (zero-add (length s)))
+    ∙ take-paste d 0 s (length s) (omega arith) (omega arith)
+    ∙ take-length s

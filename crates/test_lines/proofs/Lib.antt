@@ -1,5 +1,6 @@
 mod Copied
 mod Fields
 mod HexLaws
+mod Lists
 mod Rests
 mod Searches

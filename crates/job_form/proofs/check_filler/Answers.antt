@@ -1,5 +1,4 @@
 use Rattle.job_form.specs.Form.{filler_check}
-use borrow.Author.Rules.{rules}
 use Rattle.job_form.proofs.check_filler.Goals as goal
 
 pub returns-in-One : goal.returns-in-One

@@ -1,11 +1,9 @@
 use mathlib.Core.Path.{◌≡◌}
-use borrow.Author.Rules.{rules}
 use lib.ListN.{length}
 use Rattle.answer_forms.specs.Answer.{accepted}
 use Rattle.answer_forms.proofs.Opened.{opened}
 use Rattle.job_form.specs.Form.{size_check, form_check}
 use Rattle.answer_forms.proofs.Composed.{stopped, went_on}
-use Rattle.job_form.proofs.FormAccepted.{size_accepted}
 use Rattle.job_form.proofs.check_form.Goals as goal
 
 pub returns-in_default : goal.returns-in_default

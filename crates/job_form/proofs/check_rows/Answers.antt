@@ -1,10 +1,6 @@
-use Prim.Native.Nat.{◌-◌, ◌≤◌}
-use mathlib.Core.Path.{◌≡◌, sym}
-use native.Mathlib.Nat.{sub-zero}
+use mathlib.Core.Path.{sym}
 use native.Mathlib.Omega.{arith}
-use Rattle.job_form.specs.Form.{fillers_from}
 use Rattle.job_form.proofs.Rows.{rows_on, rows_stop, rows_end}
-use borrow.Author.Rules.{rules}
 use Rattle.job_form.proofs.check_rows.Goals as goal
 
 pub returns-in_default : goal.returns-in_default

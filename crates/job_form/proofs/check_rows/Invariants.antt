@@ -1,10 +1,6 @@
 use Prim.Native.Nat.{◌-◌, ◌≤◌}
-use mathlib.Core.Path.{◌≡◌, sym}
-use native.Mathlib.Nat.{sub-zero}
-use native.Mathlib.Omega.{arith}
+use mathlib.Core.Path.{◌≡◌}
 use Rattle.job_form.specs.Form.{fillers_from}
-use Rattle.job_form.proofs.Rows.{rows_on, rows_stop, rows_end}
-use borrow.Author.Rules.{rules}
 use Rattle.job_form.proofs.check_rows.Given as goal
 
 abbrev pub invariant-loop-i : goal.invariant-loop-i

@@ -1,6 +1,5 @@
 use borrow.Author.Tests.{eq-eqb, ne_eqb}
 use Rattle.job_bytes.specs.Format.{version}
-use borrow.Author.Rules.{rules}
 use Rattle.job_form.proofs.check_signature.Goals as goal
 
 pub returns-then-number_at-version_number : goal.returns-then-number_at-version_number

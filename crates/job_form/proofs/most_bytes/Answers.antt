@@ -1,5 +1,4 @@
 use Rattle.job_form.specs.Form.{most_bytes_of}
-use borrow.Author.Rules.{rules}
 use Rattle.job_form.proofs.most_bytes.Goals as goal
 
 pub returns-in-One : goal.returns-in-One

@@ -1,11 +1,7 @@
-use Prim.Native.Nat.{ℕ, suc, ◌-◌, ◌<◌, ◌≤◌}
+use Prim.Native.Nat.{ℕ, suc, ◌<◌, ◌≤◌}
 use mathlib.Core.Path.{◌≡◌}
-use native.Mathlib.Decide.{ℕ_discrete}
-use native.Mathlib.Omega.{arith}
-use borrow.Author.Rules.{rules}
 use lib.ListN.{length}
 use Rattle.game.specs.Tree.{of_arc}
-use Rattle.game.proofs.ArcEntries.{arc_entry}
 use Rattle.tree.specs.Passes.{Sound}
 use Rattle.parent_lists.proofs.rising_arc.Given as goal
 

@@ -1,11 +1,8 @@
-use Prim.Native.Nat.{ℕ, ◌-◌, ◌<◌}
+use Prim.Native.Nat.{◌<◌}
 use mathlib.Core.Path.{refl}
-use mathlib.Core.List.{List}
 use mathlib.Core.Option.{Option-elim}
 use native.Mathlib.Omega.{arith}
-use borrow.Author.Rules.{rules}
-use lib.ListN.{length}
-use Rattle.parent_lists.proofs.Carry.{Rises, none_follows, cleared_long, raised_entry, raised_follows}
+use Rattle.parent_lists.proofs.Carry.{Rises, none_follows, raised_entry, raised_follows}
 use Rattle.parent_lists.proofs.step.Goals as goal
 
 pub returns-then-arc-eq0 : goal.returns-then-arc-eq0

@@ -3,7 +3,6 @@ use native.Mathlib.Omega.{arith}
 use Rattle.job.specs.Reader.{Lent, JobValue, lent, job_read_of}
 use Rattle.report_text.proofs.Reading.{Roomy, Fronts, fronts, refused_report}
 use Rattle.report_text.proofs.Reading.{front_tree_lem, front_members, front_report}
-use borrow.Author.Rules.{rules}
 use Rattle.report_text.proofs.put_report.Goals as goal
 
 pub slice_bounds-put_job-end : goal.slice_bounds-put_job-end

@@ -1,4 +1,3 @@
-use borrow.Author.Rules.{rules}
 use Rattle.search.proofs.NamedGroup.{found_amount, found_group}
 use Rattle.search.proofs.search.Goals as goal
 

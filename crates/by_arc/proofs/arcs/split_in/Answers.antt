@@ -1,5 +1,4 @@
 use mathlib.Core.Path.{◌∙◌}
-use borrow.Author.Rules.{rules}
 use Rattle.users.proofs.Laid.{user_counts}
 use Rattle.by_arc.proofs.Split.{split_placed, split_is}
 use Rattle.by_arc.proofs.arcs.split_in.Goals as goal

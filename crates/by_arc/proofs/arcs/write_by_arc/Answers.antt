@@ -1,9 +1,7 @@
 use Prim.Native.Nat.{◌≤◌}
 use native.Mathlib.Omega.{arith}
-use borrow.Author.Rules.{rules}
 use lib.ListN.{length}
 use Rattle.limits.specs.Limits.{most_arcs}
-use Rattle.basics.proofs.Lists.{zeros_length}
 use Rattle.tree.proofs.Vertices.{vertices_few}
 use Rattle.by_arc.proofs.arcs.write_by_arc.Goals as goal
 

@@ -1,11 +1,6 @@
-use Prim.Native.Nat.{◌-◌, ◌≤◌, ◌<◌}
 use native.Mathlib.Omega.{arith}
-use borrow.Author.Rules.{rules}
-use lib.ListN.{length}
-use Rattle.basics.proofs.Filling.{rewriting_start, rewriting_on}
-use Rattle.tree.specs.Passes.{Sound, Costed}
-use Rattle.users.specs.Layout.{Counts}
-use Rattle.by_arc.proofs.Ways.{Walking, way_on, way_small, way_end}
+use Rattle.basics.proofs.Filling.{rewriting_on}
+use Rattle.by_arc.proofs.Ways.{way_on, way_small, way_end}
 use Rattle.by_arc.proofs.parts.write_parts.Goals as goal
 
 pub overflow_add-parts : goal.overflow_add-parts

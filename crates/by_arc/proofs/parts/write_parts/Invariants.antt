@@ -1,11 +1,8 @@
-use Prim.Native.Nat.{◌-◌, ◌≤◌, ◌<◌}
-use native.Mathlib.Omega.{arith}
-use borrow.Author.Rules.{rules}
+use Prim.Native.Nat.{◌-◌, ◌≤◌}
 use lib.ListN.{length}
-use Rattle.basics.proofs.Filling.{rewriting_start, rewriting_on}
 use Rattle.tree.specs.Passes.{Sound, Costed}
 use Rattle.users.specs.Layout.{Counts}
-use Rattle.by_arc.proofs.Ways.{Walking, way_on, way_small, way_end}
+use Rattle.by_arc.proofs.Ways.{Walking}
 use Rattle.by_arc.proofs.parts.write_parts.Given as goal
 
 abbrev pub invariant-loop-i : goal.invariant-loop-i

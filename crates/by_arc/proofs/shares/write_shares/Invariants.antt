@@ -1,11 +1,7 @@
-use Prim.Native.Nat.{ℕ, ◌+◌, ◌-◌, ◌/◌, ◌<◌}
-use mathlib.Core.Path.{◌≡◌, ap, ap₂, ◌∙◌}
-use native.Mathlib.Nat.{div-le_self}
-use native.Mathlib.Omega.{arith}
-use borrow.Author.Rules.{rules}
-use lib.ListN.{length, get_or}
-use Rattle.basics.proofs.Filling.{Filling, filling_on}
-use Rattle.basics.proofs.Lists.{entries_are}
+use Prim.Native.Nat.{◌-◌}
+use mathlib.Core.Path.{◌≡◌}
+use lib.ListN.{length}
+use Rattle.basics.proofs.Filling.{Filling}
 use Rattle.by_arc.specs.Shares.{Placed, share_of}
 use Rattle.by_arc.proofs.shares.write_shares.Given as goal
 

@@ -1,15 +1,9 @@
-use Prim.Native.Nat.{ℕ, ◌+◌, ◌-◌, ◌%◌, ◌≤◌}
-use mathlib.Core.Path.{◌≡◌, refl, sym, ap, ap₂, ◌∙◌}
-use native.Mathlib.Omega.{arith}
-use borrow.Author.Rules.{rules}
-use lib.ListN.{length, get_or}
-use Rattle.limits.specs.Limits.{most_arcs}
-use Rattle.basics.proofs.Sums.{count_le}
-use Rattle.game.specs.Tree.{of_arc}
-use Rattle.tree.specs.Passes.{Sound, listed, network_at}
+use Prim.Native.Nat.{◌≤◌}
+use mathlib.Core.Path.{◌≡◌}
+use lib.ListN.{length}
+use Rattle.tree.specs.Passes.{Sound, network_at}
 use Rattle.users.specs.Users.{LaidOut}
-use Rattle.users.proofs.Parts.{entry, part_within}
-use Rattle.by_arc.proofs.Turning.{Turned, with_costs, turned_start, turned_keys, turned_size, turned_on}
+use Rattle.by_arc.proofs.Turning.{Turned}
 use Rattle.by_arc.proofs.tallies.take_turns.Given as goal
 
 abbrev pub invariant-loop-k : goal.invariant-loop-k

@@ -1,4 +1,3 @@
-use borrow.Author.Rules.{rules}
 use Rattle.capi.specs.Structs.{encode_members, decode_members}
 use Rattle.capi.proofs.ReadBack.{stands_for, by_arc_back}
 use Rattle.capi.proofs.by_arc_split.zilqodur_split_by_arc.Goals as goal

@@ -1,4 +1,3 @@
-use borrow.Author.Rules.{rules}
 use Rattle.capi.specs.Structs.{encode_cap_sums, decode_cap_sums}
 use Rattle.capi.proofs.ReadBack.{stands_for, cap_sums_back}
 use Rattle.capi.proofs.cap_sums.zilqodur_list_cap_sums.Goals as goal

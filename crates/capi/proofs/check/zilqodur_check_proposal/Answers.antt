@@ -1,4 +1,3 @@
-use borrow.Author.Rules.{rules}
 use Rattle.answers.specs.Checks.{outside_share}
 use Rattle.capi.specs.Structs.{encode_check, decode_check}
 use Rattle.capi.proofs.Kept.{list_kept}

@@ -1,4 +1,3 @@
-use borrow.Author.Rules.{rules}
 use Rattle.capi.specs.Structs.{encode_check, decode_check}
 use Rattle.capi.proofs.Kept.{tree_kept}
 use Rattle.capi.proofs.ReadBack.{stands_for}

@@ -1,7 +1,6 @@
 use Prim.Native.Nat.{ℕ}
 use mathlib.Core.Path.{◌≡◌, ap, ◌∙◌}
 use mathlib.Core.List.{List}
-use borrow.Author.Rules.{rules}
 use Rattle.answer_forms.specs.Answer.{Answer}
 use Rattle.answers.specs.Classes.{Classed, classes_answer, classes_totals}
 use Rattle.capi.specs.declared.class_split.ZilqodurClassSplit.{ZilqodurClassSplit}

@@ -1,4 +1,3 @@
-use borrow.Author.Rules.{rules}
 use Rattle.capi.specs.Structs.{encode_group, decode_group}
 use Rattle.capi.proofs.ReadBack.{stands_for, group_back}
 use Rattle.capi.proofs.group.zilqodur_group_cost.Goals as goal

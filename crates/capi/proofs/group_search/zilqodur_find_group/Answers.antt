@@ -2,7 +2,6 @@ use Prim.Native.Nat.{ℕ}
 use mathlib.Core.Path.{◌≡◌, ap, ◌∙◌}
 use mathlib.Core.List.{List}
 use lib.IntN.{ℤ}
-use borrow.Author.Rules.{rules}
 use Rattle.game.specs.Tree.{Tree}
 use Rattle.answer_forms.specs.Answer.{Answer}
 use Rattle.answers.specs.Audit.{Verdict, search_answer, search_words}

@@ -1,4 +1,3 @@
-use borrow.Author.Rules.{rules}
 use Rattle.capi.specs.Structs.{encode_job, decode_job}
 use Rattle.capi.proofs.ReadBack.{stands_for}
 use Rattle.capi.proofs.JobBack.{job_back}

@@ -1,7 +1,6 @@
 use Rattle.capi.specs.Structs.{encode_job, decode_job}
 use Rattle.capi.proofs.ReadBack.{stands_for}
 use Rattle.capi.proofs.JobBack.{job2_back}
-use borrow.Author.Rules.{rules}
 use Rattle.capi.proofs.job_read.zilqodur_read_job2.Goals as goal
 
 pub returns : goal.returns

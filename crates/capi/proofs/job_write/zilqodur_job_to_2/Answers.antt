@@ -1,7 +1,6 @@
 use Rattle.capi.specs.Structs.{encode_job_length, decode_job_length}
 use Rattle.capi.proofs.ReadBack.{stands_for}
 use Rattle.capi.proofs.JobBack.{to2_back}
-use borrow.Author.Rules.{rules}
 use Rattle.capi.proofs.job_write.zilqodur_job_to_2.Goals as goal
 
 pub returns : goal.returns

@@ -1,4 +1,3 @@
-use borrow.Author.Rules.{rules}
 use Rattle.capi.specs.Structs.{encode_level, decode_level}
 use Rattle.capi.proofs.ReadBack.{stands_for}
 use Rattle.capi.proofs.LevelBack.{level_back}

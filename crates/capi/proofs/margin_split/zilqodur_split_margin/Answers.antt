@@ -1,4 +1,3 @@
-use borrow.Author.Rules.{rules}
 use Rattle.capi.specs.Structs.{encode_margin, decode_margin}
 use Rattle.capi.proofs.ReadBack.{stands_for, margin_back}
 use Rattle.capi.proofs.margin_split.zilqodur_split_margin.Goals as goal

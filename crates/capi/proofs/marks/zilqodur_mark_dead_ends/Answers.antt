@@ -1,4 +1,3 @@
-use borrow.Author.Rules.{rules}
 use Rattle.capi.specs.Structs.{encode_members, decode_members}
 use Rattle.capi.proofs.ReadBack.{stands_for, dead_ends_back}
 use Rattle.capi.proofs.marks.zilqodur_mark_dead_ends.Goals as goal

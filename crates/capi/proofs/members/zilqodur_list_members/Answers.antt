@@ -1,4 +1,3 @@
-use borrow.Author.Rules.{rules}
 use Rattle.capi.specs.Structs.{encode_members, decode_members}
 use Rattle.capi.proofs.ReadBack.{stands_for, members_back}
 use Rattle.capi.proofs.members.zilqodur_list_members.Goals as goal

@@ -1,4 +1,3 @@
-use borrow.Author.Rules.{rules}
 use Rattle.capi.specs.Structs.{encode_needs, decode_needs}
 use Rattle.capi.proofs.ReadBack.{stands_for, needs_back}
 use Rattle.capi.proofs.needs.zilqodur_list_needs.Goals as goal

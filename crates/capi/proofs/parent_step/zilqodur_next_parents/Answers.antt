@@ -1,4 +1,3 @@
-use borrow.Author.Rules.{rules}
 use Rattle.capi.specs.Structs.{encode_step, decode_step, VerdictUnlessRefused}
 use Rattle.capi.proofs.ReadBack.{stands_with, step_back, step_verdict}
 use Rattle.capi.proofs.parent_step.zilqodur_next_parents.Goals as goal

@@ -1,5 +1,4 @@
 use mathlib.Core.Path.{ap, ◌∙◌}
-use borrow.Author.Rules.{rules}
 use Rattle.answers.specs.Quotes.{ask_answer, asked_shares}
 use Rattle.capi.proofs.ReadBack.{stands_quoted, asked_back}
 use Rattle.capi.proofs.quotes.zilqodur_ask.Goals as goal

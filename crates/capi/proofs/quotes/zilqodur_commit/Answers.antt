@@ -1,5 +1,4 @@
 use mathlib.Core.Path.{ap, ◌∙◌}
-use borrow.Author.Rules.{rules}
 use Rattle.answers.specs.Events.{Event}
 use Rattle.answers.specs.Quotes.{quote_at, commit_answer, committed_state}
 use Rattle.capi.proofs.ReadBack.{stands_beside, committed_back}

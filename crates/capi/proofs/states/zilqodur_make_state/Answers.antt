@@ -1,4 +1,3 @@
-use borrow.Author.Rules.{rules}
 use Rattle.capi.proofs.ReadBack.{stands_beside, made_back}
 use Rattle.capi.proofs.states.zilqodur_make_state.Goals as goal
 

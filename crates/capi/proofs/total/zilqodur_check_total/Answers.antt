@@ -1,4 +1,3 @@
-use borrow.Author.Rules.{rules}
 use Rattle.capi.specs.Structs.{encode_total, decode_total, VerdictUnlessRefused}
 use Rattle.capi.proofs.ReadBack.{stands_with, total_back, total_verdict}
 use Rattle.capi.proofs.total.zilqodur_check_total.Goals as goal

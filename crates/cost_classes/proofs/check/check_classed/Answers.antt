@@ -1,20 +1,15 @@
-use Prim.Native.Nat.{ℕ, ◌*◌, ◌≤◌}
-use mathlib.Core.Path.{◌≡◌, sym, ap, ◌∙◌}
-use native.Mathlib.Nat.{mul-le-mul}
-use native.Mathlib.Omega.{arith}
+use Prim.Native.Nat.{◌≤◌}
+use mathlib.Core.Path.{◌≡◌, ◌∙◌}
 use lib.ListN.{length}
-use borrow.Author.Rules.{rules}
 use borrow.Author.Tests.{eq-eqb, ne_eqb}
-use Rattle.basics.proofs.Lists.{zeros_length}
 use Rattle.limits.specs.Limits.{most_arcs, most_classes}
 use Rattle.answer_forms.specs.Answer.{accepted}
-use Rattle.answer_forms.specs.Checked.{check_of}
 use Rattle.answer_forms.proofs.Composed.{stopped, went_on}
 use Rattle.answer_forms.proofs.Opened.{opened}
 use Rattle.answers.specs.Checks.{count_check, arc_count_check}
 use Rattle.answers.specs.Classes.{Classed, classed_of, classed_check}
 use Rattle.answers.proofs.Accepted.{count_accepted}
-use Rattle.cost_classes.proofs.Cut.{cut_room, cut_front}
+use Rattle.cost_classes.proofs.Cut.{cut_front}
 use Rattle.cost_classes.proofs.check.check_classed.Goals as goal
 
 pub returns-in_default : goal.returns-in_default

@@ -2,19 +2,16 @@ use Prim.Native.Nat.{ℕ}
 use mathlib.Core.Path.{◌≡◌, sym, ap, ◌∙◌}
 use mathlib.Core.List.{List}
 use native.Mathlib.Omega.{arith}
-use borrow.Author.Rules.{rules}
 use Rattle.basics.specs.Sum.{total}
 use Rattle.game.specs.Tree.{Tree, tree_of, network_of, network}
 use Rattle.game.specs.ByArc.{by_arc}
-use Rattle.answer_forms.specs.Answer.{accepted}
-use Rattle.answers.specs.Checks.{tree_check}
 use Rattle.answers.proofs.Accepted.{tree_accepted}
 use Rattle.answers.proofs.Limits.{whole_bound}
 use Rattle.answers.proofs.ByArcLaws.{by_arc_total}
 use Rattle.tree.specs.Passes.{Marked}
 use Rattle.tree.proofs.MembersListed.{written_listed, written_network, written_count}
-use Rattle.tree.proofs.LocalCosts.{counted_room, counted_part, counted_whole}
-use Rattle.tree.proofs.TreeAccepted.{accepted_sound, accepted_marked, counted_lent, accepted_lists, counted_few}
+use Rattle.tree.proofs.LocalCosts.{counted_part, counted_whole}
+use Rattle.tree.proofs.TreeAccepted.{accepted_sound, accepted_marked, counted_lent, accepted_lists}
 use Rattle.cost_classes.proofs.shares.split_class.Goals as goal
 
 pub slice_bounds-counted-end : goal.slice_bounds-counted-end

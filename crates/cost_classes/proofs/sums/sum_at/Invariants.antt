@@ -1,14 +1,8 @@
-use Prim.Native.Nat.{ℕ, suc, ◌+◌, ◌-◌, ◌*◌, ◌≤◌, ◌<◌}
-use mathlib.Core.Path.{◌≡◌, refl, sym, ap, ◌∙◌}
-use native.Mathlib.Nat.{mul-le-mul}
-use native.Mathlib.Numerals.{add-one}
-use native.Mathlib.Omega.{arith}
-use lib.ListN.{length, get_or}
-use borrow.Author.Rules.{rules}
+use Prim.Native.Nat.{suc, ◌-◌, ◌*◌, ◌≤◌}
+use mathlib.Core.Path.{◌≡◌}
 use Rattle.basics.specs.Sum.{sum₀}
 use Rattle.game.specs.Tree.{of_arc}
 use Rattle.answers.specs.Classes.{part}
-use Rattle.answers.proofs.ClassParts.{part_within, part_at}
 use Rattle.cost_classes.proofs.sums.sum_at.Given as goal
 
 abbrev pub invariant-loop-c : goal.invariant-loop-c

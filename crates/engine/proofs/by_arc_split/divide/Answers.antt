@@ -1,7 +1,6 @@
 use mathlib.Core.Path.{sym, ap, ◌∙◌}
 use Rattle.game.specs.ByArc.{by_arc}
-use Rattle.tree.proofs.MembersListed.{marks_count, written_listed, written_network, written_count}
-use borrow.Author.Rules.{rules}
+use Rattle.tree.proofs.MembersListed.{written_listed, written_network, written_count}
 use Rattle.engine.proofs.by_arc_split.divide.Goals as goal
 
 pub write_by_arc-requires : goal.write_by_arc-requires

@@ -1,12 +1,11 @@
-use mathlib.Core.Path.{sym, ap, ◌∙◌}
+use mathlib.Core.Path.{ap, ◌∙◌}
 use mathlib.Core.List.{[]}
 use Rattle.basics.specs.Sum.{list}
 use Rattle.game.specs.Network.{Network}
 use Rattle.answer_forms.specs.Answer.{value}
 use Rattle.answers.specs.Level.{cap_sum}
 use Rattle.level.proofs.CapsAccepted.{caps_accepted}
-use Rattle.tree.proofs.MembersListed.{marks_count, written_listed, written_network, written_count}
-use borrow.Author.Rules.{rules}
+use Rattle.tree.proofs.MembersListed.{written_listed, written_network, written_count}
 use Rattle.engine.proofs.cap_sums.list_accepted.Goals as goal
 
 pub write_cap_sums-requires : goal.write_cap_sums-requires

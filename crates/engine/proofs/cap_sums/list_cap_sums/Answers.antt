@@ -2,7 +2,6 @@ use mathlib.Core.Path.{◌≡◌, sym}
 use mathlib.Core.List.{List, []}
 use Prim.Native.Nat.{ℕ}
 use lib.ListN.{length}
-use borrow.Author.Rules.{rules}
 use Rattle.basics.specs.Sum.{list}
 use Rattle.game.specs.Network.{sum_below}
 use Rattle.game.specs.Tree.{tree_of, Tree, network, network_of}

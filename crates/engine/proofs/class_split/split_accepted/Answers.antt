@@ -1,11 +1,10 @@
-use mathlib.Core.Path.{◌≡◌, sym, ap, ◌∙◌}
-use borrow.Author.Rules.{rules}
-use Rattle.answer_forms.specs.Answer.{accepted, value}
+use mathlib.Core.Path.{◌≡◌, sym, ◌∙◌}
+use Rattle.answer_forms.specs.Answer.{accepted}
 use Rattle.answers.specs.Checks.{tree_check}
 use Rattle.answers.specs.Classes.{Classed, classed_of, summed_tree}
 use Rattle.answers.proofs.Classed.{summed_accepted}
 use Rattle.tree.specs.Passes.{Marked}
-use Rattle.tree.proofs.MembersListed.{marks_count, written_count}
+use Rattle.tree.proofs.MembersListed.{marks_count}
 use Rattle.tree.proofs.TreeAccepted.{accepted_sound, accepted_marked}
 use Rattle.engine.proofs.class_split.split_accepted.Goals as goal
 

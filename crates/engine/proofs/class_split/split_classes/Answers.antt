@@ -3,7 +3,6 @@ use mathlib.Core.Path.{◌≡◌, ap, ◌∙◌}
 use native.Mathlib.Nat.{mul-le-mul}
 use native.Mathlib.Omega.{arith}
 use lib.ListN.{length}
-use borrow.Author.Rules.{rules}
 use Rattle.basics.proofs.Lists.{zeros_length}
 use Rattle.limits.specs.Limits.{most_arcs}
 use Rattle.answer_forms.specs.Answer.{accepted}

@@ -1,14 +1,13 @@
 use Prim.Native.Nat.{ℕ}
 use mathlib.Core.Path.{◌≡◌, ap, ◌∙◌}
 use native.Mathlib.Omega.{arith}
-use borrow.Author.Rules.{rules}
 use Rattle.game.specs.Network.{member_count}
 use Rattle.game.specs.Tree.{network_of}
 use Rattle.answer_forms.specs.Answer.{accepted}
 use Rattle.answers.specs.Checks.{group_check}
 use Rattle.bits.proofs.Beyond.{size_within}
 use Rattle.answer_forms.specs.Checked.{check_of}
-use Rattle.answer_forms.proofs.Opened.{opened, turned_away}
+use Rattle.answer_forms.proofs.Opened.{opened}
 use Rattle.tree.proofs.MembersListed.{members_few, marks_count}
 use Rattle.engine.proofs.group.cost_in_tree.Goals as goal
 

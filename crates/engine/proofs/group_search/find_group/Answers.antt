@@ -2,7 +2,6 @@ use Prim.Native.Nat.{ℕ}
 use mathlib.Core.Path.{◌≡◌, refl}
 use mathlib.Core.List.{List}
 use lib.IntN.{ℤ}
-use borrow.Author.Rules.{rules}
 use Rattle.game.specs.Tree.{Tree, tree_of, network}
 use Rattle.game.specs.Group.{words_of}
 use Rattle.game.specs.Search.{is_in, named}
@@ -10,7 +9,7 @@ use Rattle.answer_forms.specs.Answer.{Answer, accepted, value}
 use Rattle.answers.specs.Checks.{tree_check}
 use Rattle.answers.specs.Audit.{Verdict, audit_check, search_verdict, search_answer, search_words, words_beside}
 use Rattle.answer_forms.proofs.Opened.{opened, turned_away}
-use Rattle.tree.proofs.LocalCosts.{counted_part, counted_room}
+use Rattle.tree.proofs.LocalCosts.{counted_part}
 use Rattle.tree.proofs.TreeAccepted.{accepted_sound, counted_lent, accepted_lists}
 use Rattle.engine.proofs.ProposalAccepted.{tree_taken, shares_taken}
 use Rattle.engine.proofs.group_search.find_group.Goals as goal

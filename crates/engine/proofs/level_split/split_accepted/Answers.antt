@@ -9,8 +9,7 @@ use Rattle.answers.specs.Level.{LevelAnswer, caps_check, split_from, list_after,
 use Rattle.tree.specs.Passes.{Capped, network_at}
 use Rattle.level.specs.Stops.{answer_of}
 use Rattle.level.proofs.CapsAccepted.{caps_accepted}
-use Rattle.tree.proofs.MembersListed.{marks_count, written_listed, written_network, written_count}
-use borrow.Author.Rules.{rules}
+use Rattle.tree.proofs.MembersListed.{written_listed, written_network, written_count}
 use Rattle.engine.proofs.level_split.split_accepted.Goals as goal
 
 pub write_level-stop-requires : goal.write_level-stop-requires

@@ -1,20 +1,10 @@
 use Prim.Native.Nat.{ℕ, ◌≤◌}
-use mathlib.Core.Path.{◌≡◌, ap, ◌∙◌}
+use mathlib.Core.Path.{◌≡◌, ◌∙◌}
 use native.Mathlib.Omega.{arith}
-use lib.ListN.{length}
 use Rattle.limits.specs.Limits.{most_arcs}
 use Rattle.game.specs.Network.{member_count}
 use Rattle.game.specs.Tree.{network_of}
-use Rattle.answer_forms.specs.Answer.{Check, accepted, ◌then◌}
-use Rattle.answers.specs.Checks.{length_check}
-use Rattle.answers.specs.Level.{caps_check, floors_check, limits_check}
-use Rattle.answer_forms.proofs.Composed.{first_accepted, second_accepted}
-use Rattle.answers.proofs.Accepted.{length_accepted}
-use Rattle.answer_forms.specs.Checked.{check_of}
-use Rattle.answer_forms.proofs.Opened.{opened, turned_away}
-use Rattle.basics.proofs.Lists.{zeros_length}
 use Rattle.tree.proofs.MembersListed.{members_few, marks_count}
-use borrow.Author.Rules.{rules}
 use Rattle.engine.proofs.level_split.split_in_tree.Goals as goal
 
 pub slice_bounds-vertices-end : goal.slice_bounds-vertices-end

@@ -1,10 +1,9 @@
 use mathlib.Core.Path.{◌≡◌}
-use borrow.Author.Rules.{rules}
 use Rattle.game.specs.Tree.{tree_of, Tree}
 use Rattle.answer_forms.specs.Answer.{accepted}
 use Rattle.answers.specs.Checks.{tree_check}
 use Rattle.answer_forms.proofs.Opened.{opened, turned_away}
-use Rattle.tree.proofs.LocalCosts.{counted_part, counted_room}
+use Rattle.tree.proofs.LocalCosts.{counted_part}
 use Rattle.tree.proofs.TreeAccepted.{accepted_sound, counted_lent, accepted_lists}
 use Rattle.engine.proofs.LevelAnswer.{tree_turned_down, tree_taken}
 use Rattle.engine.proofs.level_split.split_level.Goals as goal

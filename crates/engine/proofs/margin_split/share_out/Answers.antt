@@ -1,10 +1,9 @@
 use mathlib.Core.Path.{sym, ap, ◌∙◌, subst}
 use native.Mathlib.Omega.{arith}
-use borrow.Author.Rules.{rules}
 use Rattle.game.specs.Network.{Network}
 use Rattle.game.specs.Margin.{widest, shares_at}
 use Rattle.game.proofs.Branched.{Branched}
-use Rattle.tree.proofs.MembersListed.{marks_count, written_listed, written_network, written_count}
+use Rattle.tree.proofs.MembersListed.{written_listed, written_network, written_count}
 use Rattle.engine.proofs.margin_split.share_out.Goals as goal
 
 pub write_margin-requires : goal.write_margin-requires

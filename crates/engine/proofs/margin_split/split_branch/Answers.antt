@@ -5,18 +5,17 @@ use native.Mathlib.Omega.{arith}
 use borrow.Author.Tests.{ltb-false}
 use lib.ListN.{length}
 use lib.Dec.{ltb}
-use borrow.Author.Rules.{rules}
 use Rattle.game.specs.Network.{member_count}
 use Rattle.game.specs.Tree.{Tree, tree_of, network, network_of}
 use Rattle.game.proofs.Branched.{Branched}
 use Rattle.answer_forms.specs.Answer.{Check, accepted, fault}
 use Rattle.answer_forms.specs.Checked.{check_of}
 use Rattle.answer_forms.proofs.Composed.{no_fault}
-use Rattle.answer_forms.proofs.Opened.{opened, turned_away}
+use Rattle.answer_forms.proofs.Opened.{opened}
 use Rattle.answers.specs.Checks.{length_check}
 use Rattle.answers.proofs.Accepted.{length_accepted}
 use Rattle.tree.proofs.MembersListed.{marks_count}
-use Rattle.tree.proofs.LocalCosts.{counted_part, counted_room, sound_lent, sound_lists}
+use Rattle.tree.proofs.LocalCosts.{counted_part, sound_lists}
 use Rattle.engine.proofs.margin_split.split_branch.Goals as goal
 
 pub split_accepted-requires : goal.split_accepted-requires

@@ -2,7 +2,6 @@ use Prim.Native.Nat.{ℕ}
 use mathlib.Core.Path.{◌≡◌, sym, subst}
 use mathlib.Core.Bool.{true, not}
 use mathlib.Core.List.{List}
-use borrow.Author.Rules.{rules}
 use borrow.Author.Tests.{not-false}
 use Rattle.game.specs.Tree.{Tree, tree_of, network}
 use Rattle.game.proofs.Branched.{Branched}
@@ -16,7 +15,7 @@ use Rattle.basics.proofs.Lists.{zeros_length}
 use Rattle.limits.specs.Limits.{most_arcs}
 use Rattle.tree.specs.Passes.{Marked}
 use Rattle.tree.proofs.TreeAccepted.{accepted_sound, accepted_costed, accepted_marked}
-use Rattle.engine.proofs.BranchSplit.{branch_marked, marks_room, marks_part, branch_answer, branch_list}
+use Rattle.engine.proofs.BranchSplit.{branch_marked, marks_part, branch_answer, branch_list}
 use Rattle.engine.proofs.margin_split.split_margin.Goals as goal
 
 pub returns-in_default : goal.returns-in_default

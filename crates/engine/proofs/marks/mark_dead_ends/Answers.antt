@@ -2,12 +2,10 @@ use mathlib.Core.Path.{◌≡◌, ap, ◌∙◌}
 use mathlib.Core.List.{List}
 use Prim.Native.Nat.{ℕ}
 use lib.ListN.{length}
-use borrow.Author.Rules.{rules}
 use Rattle.basics.specs.Sum.{count}
 use Rattle.game.specs.Tree.{marked, dead_ends}
 use Rattle.answer_forms.specs.Answer.{value, accepted}
-use Rattle.answer_forms.specs.Checked.{check_of}
-use Rattle.answers.specs.Checks.{plain_check, length_check}
+use Rattle.answers.specs.Checks.{plain_check}
 use Rattle.answers.specs.DeadEnds.{dead_ends_answer, dead_ends_list}
 use Rattle.game.proofs.DeadEnds.{dead_ends_length}
 use Rattle.answers.proofs.Accepted.{length_accepted}

@@ -1,9 +1,7 @@
-use mathlib.Core.List.{List}
 use Prim.Native.Nat.{ℕ}
 use mathlib.Core.Path.{◌≡◌, sym, ap, ◌∙◌}
 use native.Mathlib.Omega.{arith}
 use lib.ListN.{length}
-use borrow.Author.Rules.{rules}
 use Rattle.game.specs.Network.{member_count, members_to, Network}
 use Rattle.game.specs.Tree.{tree_of, Tree, network}
 use Rattle.answer_forms.specs.Answer.{accepted}

@@ -1,11 +1,9 @@
 use mathlib.Core.Path.{◌≡◌, ◌∙◌}
 use lib.ListN.{length}
-use borrow.Author.Rules.{rules}
 use Rattle.game.specs.Network.{whole_cost, sum_below}
 use Rattle.answer_forms.specs.Answer.{accepted}
 use Rattle.answers.specs.Checks.{length_check}
-use Rattle.answers.proofs.Accepted.{length_accepted}
-use Rattle.answer_forms.proofs.Opened.{opened, turned_away}
+use Rattle.answer_forms.proofs.Opened.{opened}
 use Rattle.tree.proofs.MembersListed.{marks_count}
 use Rattle.engine.proofs.needs.list_in_tree.Goals as goal
 

@@ -1,11 +1,10 @@
 use mathlib.Core.Path.{◌≡◌}
-use borrow.Author.Rules.{rules}
 use Rattle.game.specs.Tree.{tree_of, Tree}
 use Rattle.answer_forms.specs.Answer.{accepted}
 use Rattle.answers.specs.Checks.{tree_check}
 use Rattle.answers.specs.Needs.{needs_answer, needs_list}
 use Rattle.answer_forms.proofs.Opened.{opened, turned_away}
-use Rattle.tree.proofs.LocalCosts.{counted_part, counted_room}
+use Rattle.tree.proofs.LocalCosts.{counted_part}
 use Rattle.tree.proofs.TreeAccepted.{accepted_sound, counted_lent, accepted_lists}
 use Rattle.engine.proofs.needs.list_needs.Goals as goal
 

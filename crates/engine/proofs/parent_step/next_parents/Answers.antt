@@ -4,7 +4,6 @@ use mathlib.Core.Bool.{Bool, true, false, cond}
 use mathlib.Core.List.{List}
 use mathlib.Core.Option.{Option, none, some, Option-elim}
 use native.Mathlib.Omega.{arith}
-use borrow.Author.Rules.{rules}
 use Rattle.answer_forms.specs.Answer.{accepted, value}
 use Rattle.answer_forms.proofs.Opened.{opened, turned_away}
 use Rattle.answers.specs.Checks.{small_check}

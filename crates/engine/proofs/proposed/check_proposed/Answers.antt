@@ -1,9 +1,8 @@
 use Prim.Native.Nat.{ℕ}
 use mathlib.Core.Path.{ap, ◌∙◌}
-use borrow.Author.Rules.{rules}
 use Rattle.game.specs.Tree.{tree_of}
 use Rattle.answers.specs.Checks.{proposal_check}
-use Rattle.answer_forms.proofs.Composed.{stopped, went_on}
+use Rattle.answer_forms.proofs.Composed.{went_on}
 use Rattle.answer_forms.proofs.Opened.{opened}
 use Rattle.tree.proofs.TreeAccepted.{accepted_count}
 use Rattle.engine.proofs.proposed.check_proposed.Goals as goal

@@ -3,7 +3,6 @@ use mathlib.Core.Path.{◌≡◌, ap, ◌∙◌}
 use mathlib.Core.List.{List}
 use lib.IntN.{ℤ, sub_ℕ}
 use native.Mathlib.Omega.{arith}
-use borrow.Author.Rules.{rules}
 use mir.Syntax.{w64}
 use mir.Facts.{to_z-of_z}
 use Rattle.game.specs.Network.{whole_cost}
@@ -14,8 +13,7 @@ use Rattle.answers.specs.Audit.{audit_check, total_answer}
 use Rattle.answer_forms.proofs.Opened.{opened, turned_away}
 use Rattle.answers.proofs.Accepted.{tree_accepted}
 use Rattle.answers.proofs.Limits.{whole_bound}
-use Rattle.tree.proofs.LocalCosts.{counted_room}
-use Rattle.tree.proofs.TreeAccepted.{accepted_sound, counted_lent, counted_few}
+use Rattle.tree.proofs.TreeAccepted.{accepted_sound, counted_lent}
 use Rattle.tree.proofs.LocalCosts.{counted_whole}
 use Rattle.engine.proofs.ProposalAccepted.{tree_taken, one_a_member, shares_lent}
 use Rattle.engine.proofs.Difference.{difference_is}

@@ -1,5 +1,4 @@
 use mathlib.Core.Path.{◌≡◌, ap, ◌∙◌}
-use borrow.Author.Rules.{rules}
 use borrow.Author.Tests.{lt-ltb, le-ltb}
 use lib.Dec.{ltb}
 use mathlib.Core.Bool.{false}
@@ -8,7 +7,7 @@ use Rattle.answers.specs.Members.{member_count_answer}
 use Rattle.answers.specs.States.{State, tree_in, state_check}
 use Rattle.engine.specs.Outcomes.{member_count_of}
 use Rattle.events.specs.Outcomes.{state_of}
-use Rattle.events.proofs.Arrays.{reaches, part_tree}
+use Rattle.events.proofs.Arrays.{part_tree}
 use Rattle.events.proofs.Counted.{counted, not_counted}
 use Rattle.events.proofs.apply.apply_event.Goals as goal
 

@@ -1,7 +1,6 @@
 use Prim.Native.Nat.{ℕ, ◌≤◌}
 use mathlib.Core.Path.{◌≡◌, sym, ap, ◌∙◌}
 use native.Mathlib.Omega.{arith}
-use borrow.Author.Rules.{rules}
 use lib.ListN.{length}
 use Rattle.basics.proofs.Sums.{count_le}
 use Rattle.limits.specs.Limits.{most_arcs}
@@ -18,7 +17,6 @@ use Rattle.answers.specs.EventLaws.{members_after, OutcomeLaws}
 use Rattle.answers.proofs.Limits.{tree_limits}
 use Rattle.answers.proofs.Reached.{outcome_laws}
 use Rattle.events.specs.Outcomes.{state_of, event_of}
-use Rattle.events.proofs.Arrays.{reaches}
 use Rattle.events.proofs.Carried.{tree_length, fit_is, changed_tree, event_check_lem, event_answer}
 use Rattle.events.proofs.apply.apply_in_tree.Goals as goal
 

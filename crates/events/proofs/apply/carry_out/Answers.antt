@@ -1,12 +1,11 @@
 use mathlib.Core.Path.{◌≡◌, sym, ap, ◌∙◌}
-use borrow.Author.Rules.{rules}
 use Rattle.game.specs.Network.{member_count}
 use Rattle.game.specs.Tree.{Tree, network}
 use Rattle.answers.specs.Members.{member_count_answer}
 use Rattle.answers.specs.States.{State, tree_in, made_state}
 use Rattle.engine.specs.Outcomes.{member_count_of}
 use Rattle.events.specs.Outcomes.{state_of}
-use Rattle.events.proofs.Arrays.{reaches, part_tree}
+use Rattle.events.proofs.Arrays.{part_tree}
 use Rattle.events.proofs.Counted.{counted, not_counted}
 use Rattle.events.proofs.apply.carry_out.Goals as goal
 

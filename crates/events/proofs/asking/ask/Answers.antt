@@ -1,5 +1,4 @@
 use mathlib.Core.Path.{◌≡◌, ap, ◌∙◌}
-use borrow.Author.Rules.{rules}
 use Rattle.answers.specs.States.{State, padded}
 use Rattle.answers.specs.Events.{Event, apply_check}
 use Rattle.answers.specs.Quotes.{quote_on, ask_answer, asked_shares}

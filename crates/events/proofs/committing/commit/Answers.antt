@@ -1,12 +1,10 @@
 use Prim.Native.Nat.{suc, ◌+◌}
 use mathlib.Core.Path.{◌≡◌}
 use native.Mathlib.Omega.{arith}
-use borrow.Author.Rules.{rules}
 use Rattle.answer_forms.specs.Answer.{accepted}
 use Rattle.answer_forms.proofs.Opened.{opened, turned_away}
 use Rattle.answers.specs.States.{State}
 use Rattle.answers.specs.Quotes.{Quote, number_check, commit_check, commit_answer, committed_state}
-use Rattle.answers.proofs.QuoteLaws.{number_laws}
 use Rattle.events.specs.Outcomes.{state_of, quote_of}
 use Rattle.events.proofs.committing.commit.Goals as goal
 

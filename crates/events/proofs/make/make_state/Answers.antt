@@ -1,4 +1,3 @@
-use borrow.Author.Rules.{rules}
 use Rattle.game.specs.Tree.{tree_of, Tree}
 use Rattle.answers.specs.States.{made_state}
 use Rattle.answers.proofs.Limits.{tree_limits}

@@ -1,7 +1,6 @@
 use Prim.Native.Nat.{◌-◌}
-use borrow.Author.Rules.{rules}
 use lib.ListN.{length}
-use Rattle.events.proofs.Copied.{Copying, copying_start, copying_in, copying_on, copied}
+use Rattle.events.proofs.Copied.{Copying}
 use Rattle.events.proofs.padding.pad16.Given as goal
 
 abbrev pub invariant-loop-i : goal.invariant-loop-i

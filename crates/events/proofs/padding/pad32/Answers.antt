@@ -1,7 +1,4 @@
-use Prim.Native.Nat.{◌-◌}
-use borrow.Author.Rules.{rules}
-use lib.ListN.{length}
-use Rattle.events.proofs.Copied.{Copying, copying_start, copying_in, copying_on, copied}
+use Rattle.events.proofs.Copied.{copied}
 use Rattle.events.proofs.padding.pad32.Goals as goal
 
 pub returns : goal.returns

@@ -1,5 +1,4 @@
 use mathlib.Core.Path.{◌≡◌, sym, ◌∙◌}
-use borrow.Author.Rules.{rules}
 use Rattle.answer_forms.specs.Answer.{accepted}
 use Rattle.answer_forms.specs.Checked.{check_of}
 use Rattle.answer_forms.proofs.Composed.{turned_down, stopped, went_on}

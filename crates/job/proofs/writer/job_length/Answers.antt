@@ -2,7 +2,6 @@ use Prim.Native.Nat.{◌+◌, ◌*◌, ◌^◌, ◌<◌}
 use mathlib.Core.Path.{◌≡◌}
 use native.Mathlib.Omega.{arith}
 use lib.ListN.{length}
-use borrow.Author.Rules.{rules}
 use Rattle.answer_forms.proofs.Opened.{opened, turned_away}
 use Rattle.answer_forms.specs.Answer.{accepted}
 use Rattle.job_bytes.specs.JobBytes.{Contents, contents}

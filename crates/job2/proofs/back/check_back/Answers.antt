@@ -1,7 +1,6 @@
 use Rattle.answer_forms.proofs.Opened.{opened}
 use Rattle.answer_forms.proofs.Composed.{stopped, went_on}
 use Rattle.job2.specs.Converter.{back_check}
-use borrow.Author.Rules.{rules}
 use Rattle.job2.proofs.back.check_back.Goals as goal
 
 pub returns-in_default : goal.returns-in_default

@@ -1,16 +1,10 @@
-use Prim.Native.Nat.{◌+◌, ◌-◌, ◌≤◌}
+use Prim.Native.Nat.{◌+◌}
 use mathlib.Core.Path.{◌≡◌, refl, sym, ap, ◌∙◌}
 use native.Mathlib.Omega.{arith}
 use lib.ListN.{length}
-use Rattle.answer_forms.specs.Answer.{accepted}
 use Rattle.answers.specs.Checks.{one_by_one}
 use Rattle.answers.proofs.OneByOne.{step_accepted, step_refused}
-use Prim.Native.Nat.{pred}
-use lib.Dec.{ltb}
-use Rattle.game.specs.Tree.{of_arc}
-use Rattle.answer_forms.specs.Answer.{fault}
 use Rattle.job2.specs.Converter.{floored_check}
-use borrow.Author.Rules.{rules}
 use Rattle.job2.proofs.back.check_each.Goals as goal
 
 pub loop-i-init : goal.loop-i-init

@@ -1,17 +1,14 @@
-use Prim.Native.Nat.{ℕ, suc, ◌+◌, ◌-◌, ◌≤◌}
+use Prim.Native.Nat.{ℕ, suc, ◌+◌}
 use native.Mathlib.Numerals.{add-one}
 use lib.Dec.{eqb}
 use mathlib.Core.Path.{◌≡◌, refl, sym, ap, ◌∙◌}
 use native.Mathlib.Omega.{arith}
 use lib.ListN.{length, get_or}
-use Rattle.answer_forms.specs.Answer.{accepted}
 use Rattle.answers.specs.Checks.{one_by_one}
 use Rattle.answers.proofs.OneByOne.{step_accepted, step_refused}
 use mathlib.Core.Bool.{◌&&◌, not}
-use Rattle.game.specs.Tree.{marked}
 use Rattle.answer_forms.specs.Answer.{Check, fault}
 use Rattle.job2.specs.Converter.{unmarked_check}
-use borrow.Author.Rules.{rules}
 use Rattle.job2.proofs.back.check_ends.Goals as goal
 
 at_vertex : (end mark i : ℕ) {found : Check} → found ≡ fault (eqb end 1 && not (eqb mark 1)) 29 (i + 1)

@@ -6,7 +6,6 @@ use Rattle.job_bytes.specs.declared.version.Version.TheVariants.{Two}
 use Rattle.job_bytes.specs.Format.{member_offset, job_members, floor_at}
 use Rattle.job_checks.proofs.Counted.{member_column}
 use Rattle.job2.proofs.Readable.{readable}
-use borrow.Author.Rules.{rules}
 use Rattle.job2.proofs.back.check_floors.Goals as goal
 
 pub read_trailer-t-requires : goal.read_trailer-t-requires

@@ -2,8 +2,7 @@ use Rattle.game.proofs.DeadEnds.{dead_ends_length}
 use Rattle.limits.specs.Limits.{most_arcs}
 use Rattle.basics.proofs.Lists.{zeros_length}
 use Rattle.answers.proofs.Limits.{tree_limits}
-use Rattle.job_checks.proofs.Marked.{marks_room, marks_part}
-use borrow.Author.Rules.{rules}
+use Rattle.job_checks.proofs.Marked.{marks_part}
 use Rattle.job2.proofs.back.check_marked.Goals as goal
 
 pub slice_bounds-ends-end : goal.slice_bounds-ends-end

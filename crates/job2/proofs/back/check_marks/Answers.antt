@@ -2,7 +2,6 @@ use Rattle.job_bytes.specs.declared.version.Version.TheVariants.{Two}
 use native.Mathlib.Omega.{arith}
 use Rattle.basics.proofs.Lists.{entries_part}
 use Rattle.job2.proofs.Readable.{readable}
-use borrow.Author.Rules.{rules}
 use Rattle.job2.proofs.back.check_marks.Goals as goal
 
 pub read_trailer-t-requires : goal.read_trailer-t-requires

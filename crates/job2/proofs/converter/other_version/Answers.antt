@@ -1,5 +1,4 @@
 use Rattle.job2.specs.Converter.{other}
-use borrow.Author.Rules.{rules}
 use Rattle.job2.proofs.converter.other_version.Goals as goal
 
 pub returns-in-One : goal.returns-in-One

@@ -1,5 +1,4 @@
 use Rattle.job2.specs.Converter.{fillers_in}
-use borrow.Author.Rules.{rules}
 use Rattle.job2.proofs.converter.put_contents.Goals as goal
 
 pub returns-in-One : goal.returns-in-One

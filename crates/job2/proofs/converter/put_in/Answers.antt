@@ -2,7 +2,6 @@ use native.Mathlib.Omega.{arith}
 use Rattle.job2.specs.Converter.{other, in_version}
 use Rattle.job2.proofs.Readable.{readable}
 use Rattle.job2.proofs.Parts.{values_part, note_part, ready}
-use borrow.Author.Rules.{rules}
 use Rattle.job2.proofs.converter.put_in.Goals as goal
 
 pub read_contents-t-requires : goal.read_contents-t-requires

@@ -1,8 +1,6 @@
 use Rattle.limits.specs.Limits.{most_arcs}
 use Rattle.basics.proofs.Lists.{zeros_length}
-use Rattle.game.proofs.DeadEnds.{dead_ends_length}
-use Rattle.job_checks.proofs.Marked.{marks_room, marks_part}
-use borrow.Author.Rules.{rules}
+use Rattle.job_checks.proofs.Marked.{marks_part}
 use Rattle.job2.proofs.converter.put_marked.Goals as goal
 
 pub returns : goal.returns

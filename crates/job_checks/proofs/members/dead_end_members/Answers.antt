@@ -1,6 +1,5 @@
 use mathlib.Core.Path.{◌∙◌}
 use native.Mathlib.Omega.{arith}
-use borrow.Author.Rules.{rules}
 use Rattle.basics.proofs.Lists.{zeros_length}
 use Rattle.job_checks.proofs.Counted.{dead_ends_counted}
 use Rattle.job_checks.proofs.members.dead_end_members.Goals as goal

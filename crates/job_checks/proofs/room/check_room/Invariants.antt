@@ -1,16 +1,12 @@
-use Prim.Native.Nat.{◌+◌, ◌-◌, ◌≤◌}
-use mathlib.Core.Path.{◌≡◌, refl, sym, ap, ◌∙◌}
-use native.Mathlib.Omega.{arith}
+use Prim.Native.Nat.{◌-◌, ◌≤◌}
+use mathlib.Core.Path.{◌≡◌}
 use lib.ListN.{length}
 use Rattle.answer_forms.specs.Answer.{accepted}
 use Rattle.answers.specs.Checks.{one_by_one}
-use Rattle.answers.proofs.OneByOne.{step_accepted, step_refused}
 use lib.Dec.{ltb}
 use Rattle.limits.specs.Limits.{most_arcs}
 use Rattle.game.specs.Tree.{of_arc}
 use Rattle.answer_forms.specs.Answer.{fault}
-use Rattle.job_checks.specs.JobCheck.{room_check}
-use borrow.Author.Rules.{rules}
 use Rattle.job_checks.proofs.room.check_room.Given as goal
 
 abbrev pub invariant-loop-i : goal.invariant-loop-i

@@ -1,6 +1,5 @@
 use Rattle.job_bytes.specs.Versions.{floor_width}
 use Rattle.job_checks.proofs.Zeros.{none_below}
-use borrow.Author.Rules.{rules}
 use Rattle.job_checks.proofs.values.check_floors.Goals as goal
 
 pub check_limits-requires : goal.check_limits-requires

@@ -1,6 +1,5 @@
 use Rattle.basics.proofs.Lists.{entries_part}
 use Rattle.job_bytes.specs.Versions.{floor_width}
-use borrow.Author.Rules.{rules}
 use Rattle.job_checks.proofs.values.check_limits.Goals as goal
 
 pub returns : goal.returns

@@ -1,8 +1,5 @@
-use Prim.Native.Nat.{ℕ}
 use mathlib.Core.Path.{◌≡◌, sym, ◌∙◌}
-use mathlib.Core.List.{List}
 use native.Mathlib.Omega.{arith}
-use borrow.Author.Rules.{rules}
 use Rattle.answer_forms.specs.Answer.{accepted}
 use Rattle.answers.specs.Checks.{tree_check}
 use Rattle.answers.specs.Members.{member_count_answer}
@@ -11,7 +8,6 @@ use Rattle.answer_forms.proofs.Opened.{opened}
 use Rattle.engine.specs.Outcomes.{member_count_of}
 use Rattle.answers.proofs.Limits.{tree_limits}
 use Rattle.job_bytes.specs.Format.{job_members}
-use Rattle.job_bytes.specs.declared.version.Version.{Version}
 use Rattle.answer_forms.proofs.Composed.{turned_down, stopped, went_on}
 use Rattle.job_checks.specs.JobCheck.{job_tree, tree_members, count_check, shares_check, values_check}
 use Rattle.job_checks.proofs.Counted.{tree_is, tree_refused, tree_counted, shares_by, rows_within}

@@ -3,7 +3,6 @@ use Rattle.basics.proofs.Lists.{entries_length, entries_part}
 use Rattle.job_bytes.specs.Format.{parent_at}
 use Rattle.job_checks.specs.JobCheck.{marks_of}
 use Rattle.job_checks.proofs.Counted.{too_many}
-use borrow.Author.Rules.{rules}
 use Rattle.job_checks.proofs.values.count_members.Goals as goal
 
 pub returns-then-arcs-gt-MOST_ARCS : goal.returns-then-arcs-gt-MOST_ARCS

@@ -1,15 +1,12 @@
-use Prim.Native.Nat.{◌+◌, ◌-◌, ◌≤◌, ◌<◌}
-use mathlib.Core.Path.{◌≡◌, refl, sym, ◌∙◌}
-use lib.ListN.{length, get_or}
+use Prim.Native.Nat.{◌-◌, ◌<◌}
+use mathlib.Core.Path.{◌≡◌, refl, ◌∙◌}
+use lib.ListN.{length}
 use native.Mathlib.Omega.{arith}
-use borrow.Author.Rules.{rules}
-use Rattle.basics.specs.Sum.{list}
 use Rattle.basics.proofs.Lists.{list_length}
 use Rattle.game.specs.Network.{Network, need}
 use Rattle.game.specs.Floors.{adjusted}
-use Rattle.game.proofs.LevelList.{view}
-use Rattle.tree.specs.Passes.{Sound, Costed, Listed, Capped, network_at}
-use Rattle.tree.proofs.InwardPass.{Waiting, waiting_on, Passing, passing_start, passing_on, passing_end}
+use Rattle.tree.specs.Passes.{network_at}
+use Rattle.tree.proofs.InwardPass.{waiting_on, passing_start, passing_on, passing_end}
 use Rattle.level.proofs.AdjustedPass.{adjusting_at, adjusting_carry}
 use Rattle.level.proofs.adjusted.write_adjusted.Goals as goal
 

@@ -1,8 +1,6 @@
 use mathlib.Core.Path.{sym, ap, ◌∙◌}
 use Rattle.level.specs.Stops.{answer_of}
-use Rattle.level.proofs.Stopped.{list_kept}
 use Rattle.level.proofs.AtAdjusted.{adjusted_bounds, level_at_adjusted}
-use borrow.Author.Rules.{rules}
 use Rattle.level.proofs.shares.write_at.Goals as goal
 
 pub write_shares-requires : goal.write_shares-requires

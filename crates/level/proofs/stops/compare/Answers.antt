@@ -1,9 +1,6 @@
-use mathlib.Core.Path.{ap, ◌∙◌}
-use lib.ListN.{length}
-use Rattle.basics.proofs.Lists.{list_length}
+use mathlib.Core.Path.{◌∙◌}
 use Rattle.game.specs.Network.{sum_below}
 use Rattle.level.proofs.Stopped.{stop_answer}
-use borrow.Author.Rules.{rules}
 use Rattle.level.proofs.stops.compare.Goals as goal
 
 pub write_adjusted-requires : goal.write_adjusted-requires

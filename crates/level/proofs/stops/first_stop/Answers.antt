@@ -1,10 +1,7 @@
-use Prim.Native.Nat.{ℕ, ◌-◌, ◌≤◌}
-use mathlib.Core.Path.{◌≡◌, refl, sym, ◌∙◌}
+use Prim.Native.Nat.{◌-◌}
+use mathlib.Core.Path.{sym, ◌∙◌}
 use native.Mathlib.Omega.{arith}
-use lib.ListN.{length}
-use Rattle.level.specs.Stops.{stop_from}
 use Rattle.level.proofs.Stopped.{none_left, stop_here, stop_later}
-use borrow.Author.Rules.{rules}
 use Rattle.level.proofs.stops.first_stop.Goals as goal
 
 pub returns-in_default : goal.returns-in_default

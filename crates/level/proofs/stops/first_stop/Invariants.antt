@@ -1,10 +1,7 @@
-use Prim.Native.Nat.{ℕ, ◌-◌, ◌≤◌}
-use mathlib.Core.Path.{◌≡◌, refl, sym, ◌∙◌}
-use native.Mathlib.Omega.{arith}
+use Prim.Native.Nat.{ℕ, ◌≤◌}
+use mathlib.Core.Path.{◌≡◌}
 use lib.ListN.{length}
 use Rattle.level.specs.Stops.{stop_from}
-use Rattle.level.proofs.Stopped.{none_left, stop_here, stop_later}
-use borrow.Author.Rules.{rules}
 use Rattle.level.proofs.stops.first_stop.Given as goal
 
 abbrev pub invariant-loop-k : goal.invariant-loop-k

@@ -1,11 +1,5 @@
-use Prim.Native.Nat.{◌-◌, ◌≤◌, ◌<◌}
-use mathlib.Core.Path.{◌≡◌, sym, ◌∙◌}
-use lib.ListN.{length, get_or}
 use native.Mathlib.Omega.{arith}
-use borrow.Author.Rules.{rules}
-use Rattle.limits.specs.Limits.{most_arcs}
-use Rattle.tree.specs.Passes.{Sound}
-use Rattle.margin.proofs.BranchPass.{Marking, marking_start, marking_on, marking_end}
+use Rattle.margin.proofs.BranchPass.{marking_start, marking_on, marking_end}
 use Rattle.margin.proofs.branch.write_branch_marks.Goals as goal
 
 pub loop-i-init : goal.loop-i-init

@@ -1,11 +1,9 @@
-use Prim.Native.Nat.{◌-◌, ◌≤◌, ◌<◌}
-use mathlib.Core.Path.{◌≡◌, sym, ◌∙◌}
-use lib.ListN.{length, get_or}
-use native.Mathlib.Omega.{arith}
-use borrow.Author.Rules.{rules}
+use Prim.Native.Nat.{◌-◌, ◌≤◌}
+use mathlib.Core.Path.{◌≡◌}
+use lib.ListN.{length}
 use Rattle.limits.specs.Limits.{most_arcs}
 use Rattle.tree.specs.Passes.{Sound}
-use Rattle.margin.proofs.BranchPass.{Marking, marking_start, marking_on, marking_end}
+use Rattle.margin.proofs.BranchPass.{Marking}
 use Rattle.margin.proofs.branch.write_branch_marks.Given as goal
 
 abbrev pub invariant-loop-i : goal.invariant-loop-i

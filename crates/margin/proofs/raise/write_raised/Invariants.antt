@@ -1,16 +1,12 @@
 use Prim.Native.Nat.{◌+◌, ◌-◌, ◌≤◌, ◌<◌}
-use mathlib.Core.Path.{◌≡◌, refl, sym, ◌∙◌}
-use lib.ListN.{length, get_or}
-use native.Mathlib.Omega.{arith}
-use borrow.Author.Rules.{rules}
+use mathlib.Core.Path.{◌≡◌}
+use lib.ListN.{length}
 use Rattle.game.specs.Margin.{raised}
 use Rattle.limits.specs.Inner.{most_whole}
 use Rattle.limits.specs.Limits.{most_arcs}
 use Rattle.tree.specs.Passes.{network_at}
-use Rattle.tree.proofs.InwardPass.{Passing, passing_start, passing_on, passing_end}
+use Rattle.tree.proofs.InwardPass.{Passing}
 use Rattle.margin.specs.Passes.{Given}
-use Rattle.margin.proofs.Given.{needs_sized, counts_sized, need_fits}
-use Rattle.margin.proofs.RaisePass.{raising_at, raising_carry}
 use Rattle.margin.proofs.raise.write_raised.Given as goal
 
 abbrev pub invariant-loop-k : goal.invariant-loop-k

@@ -1,16 +1,13 @@
-use Prim.Native.Nat.{ℕ, ◌+◌, ◌-◌, ◌≤◌, ◌<◌, ◌/◌}
-use mathlib.Core.Path.{◌≡◌, sym, ap, ◌∙◌}
+use Prim.Native.Nat.{ℕ, ◌+◌, ◌-◌, ◌<◌, ◌/◌}
+use mathlib.Core.Path.{◌≡◌, ap, ◌∙◌}
 use lib.ListN.{length, get_or}
 use native.Mathlib.Omega.{arith}
-use borrow.Author.Rules.{rules}
-use Rattle.basics.proofs.Sums.{In}
 use Rattle.basics.proofs.Lists.{list_length}
 use Rattle.game.specs.Margin.{raised}
-use Rattle.limits.specs.Inner.{most_whole}
 use Rattle.tree.specs.Passes.{network_at}
 use Rattle.margin.specs.Passes.{Given}
 use Rattle.margin.proofs.Given.{needs_sized, need_at, need_fits, entry_of}
-use Rattle.margin.proofs.Between.{Between, between_start, between_on, between_less, between_end}
+use Rattle.margin.proofs.Between.{between_start, between_on, between_end}
 use Rattle.margin.proofs.search.find_margin.Goals as goal
 
 pub bounds-needs-arc : goal.bounds-needs-arc

@@ -1,4 +1,3 @@
-use borrow.Author.Rules.{rules}
 use Rattle.margin.proofs.AtRaised.{lists_measured, arc_used}
 use Rattle.margin.proofs.shares.raise_at_widest.Goals as goal
 

@@ -1,7 +1,4 @@
 use mathlib.Core.Path.{◌∙◌}
-use borrow.Author.Rules.{rules}
-use Rattle.limits.specs.Limits.{most_arcs}
-use Rattle.basics.proofs.Lists.{zeros_length}
 use Rattle.margin.proofs.AtRaised.{ample_capped, raised_bounds, level_at_raised}
 use Rattle.margin.proofs.shares.split_at_widest.Goals as goal
 

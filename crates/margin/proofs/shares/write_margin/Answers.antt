@@ -1,7 +1,4 @@
 use native.Mathlib.Omega.{arith}
-use borrow.Author.Rules.{rules}
-use Rattle.limits.specs.Limits.{most_arcs}
-use Rattle.basics.proofs.Lists.{zeros_length}
 use Rattle.tree.proofs.Vertices.{vertices_few}
 use Rattle.margin.proofs.shares.write_margin.Goals as goal
 

@@ -1,11 +1,10 @@
 use Prim.Native.Nat.{ℕ}
-use mathlib.Core.Path.{◌≡◌, sym, subst}
+use mathlib.Core.Path.{◌≡◌}
 use mathlib.Core.List.{List, [], ◌∷◌}
 use native.Mathlib.Omega.{arith}
 use Rattle.buffer.specs.Put.{Put}
 use Rattle.buffer.proofs.Pieces.{put_then}
 use Rattle.report_lines.specs.Lines.{or_pass}
-use borrow.Author.Rules.{rules}
 use Rattle.report_lines.proofs.audit.put_audit.Goals as goal
 
 -- any other stands as it is

@@ -2,8 +2,7 @@ use mathlib.Core.Path.{◌∙◌}
 use native.Mathlib.Omega.{arith}
 use mir.Facts.{to_z-of_z}
 use Rattle.numbers.proofs.TwosComplement.{zero_told}
-use Rattle.buffer.proofs.Pieces.{put_then, put_none}
-use borrow.Author.Rules.{rules}
+use Rattle.buffer.proofs.Pieces.{put_then}
 use Rattle.report_lines.proofs.audit.put_difference.Goals as goal
 
 pub returns : goal.returns

@@ -1,10 +1,6 @@
 use Prim.Native.Nat.{◌-◌}
-use mathlib.Core.Path.{refl}
-use native.Mathlib.Omega.{arith}
-use Rattle.basics.specs.Bit.{bit}
 use Rattle.report_lines.specs.Lines.{group_text}
-use Rattle.buffer.proofs.Listing.{Listed, listed_start, listed_on, listed_end}
-use borrow.Author.Rules.{rules}
+use Rattle.buffer.proofs.Listing.{Listed}
 use Rattle.report_lines.proofs.audit.put_group.Given as goal
 
 abbrev pub invariant-loop-j : goal.invariant-loop-j

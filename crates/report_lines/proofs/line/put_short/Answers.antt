@@ -1,6 +1,5 @@
 use native.Mathlib.Omega.{arith}
 use Rattle.buffer.proofs.Pieces.{put_then}
-use borrow.Author.Rules.{rules}
 use Rattle.report_lines.proofs.line.put_short.Goals as goal
 
 pub returns : goal.returns

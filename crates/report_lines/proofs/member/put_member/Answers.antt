@@ -1,7 +1,6 @@
 use native.Mathlib.Omega.{arith}
 use mir.Facts.{to_z-of_z}
 use Rattle.buffer.proofs.Pieces.{put_then}
-use borrow.Author.Rules.{rules}
 use Rattle.report_lines.proofs.member.put_member.Goals as goal
 
 pub returns : goal.returns

@@ -1,12 +1,8 @@
-use Prim.Native.Nat.{◌-◌}
 use mathlib.Core.Path.{refl}
-use lib.ListN.{length}
 use mir.Syntax.{w64}
 use mir.Facts.{to_z-of_z}
-use Rattle.engine.specs.Outcomes.{level_of}
 use Rattle.report_lines.specs.Lines.{member_lines}
-use Rattle.buffer.proofs.Listing.{Listed, listed_start, listed_on, listed_end}
-use borrow.Author.Rules.{rules}
+use Rattle.buffer.proofs.Listing.{listed_start, listed_on}
 use Rattle.report_lines.proofs.member.put_members.Goals as goal
 
 pub loop-j-init : goal.loop-j-init

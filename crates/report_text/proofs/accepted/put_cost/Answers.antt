@@ -1,6 +1,5 @@
 use mathlib.Core.Path.{◌∙◌}
 use Rattle.report_text.proofs.Found.{needs_found}
-use borrow.Author.Rules.{rules}
 use Rattle.report_text.proofs.accepted.put_cost.Goals as goal
 
 pub returns : goal.returns

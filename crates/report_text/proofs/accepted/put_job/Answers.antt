@@ -6,8 +6,7 @@ use Rattle.limits.specs.Limits.{most_arcs}
 use Rattle.game.specs.Tree.{dead_ends}
 use Rattle.basics.proofs.Lists.{zeros_length}
 use Rattle.answers.proofs.Limits.{tree_limits}
-use Rattle.job_checks.proofs.Marked.{marks_room, marks_part}
-use borrow.Author.Rules.{rules}
+use Rattle.job_checks.proofs.Marked.{marks_part}
 use Rattle.report_text.proofs.accepted.put_job.Goals as goal
 
 pub slice_bounds-marks-end : goal.slice_bounds-marks-end

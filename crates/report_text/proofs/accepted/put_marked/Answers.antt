@@ -8,7 +8,6 @@ use Rattle.buffer.proofs.Pieces.{put_then}
 use Rattle.report_text.specs.Report.{blank}
 use Rattle.report_text.proofs.Found.{few_members}
 use Rattle.job_bytes.proofs.Zeros.{zeros_part}
-use borrow.Author.Rules.{rules}
 use Rattle.report_text.proofs.accepted.put_marked.Goals as goal
 
 pub slice_bounds-put_splits-end : goal.slice_bounds-put_splits-end

@@ -7,7 +7,6 @@ use Rattle.game.specs.Network.{member_count}
 use Rattle.game.specs.Tree.{Tree, tree_of, network}
 use Rattle.report_text.proofs.Found.{members_listed}
 use Rattle.report_text.proofs.Joined.{split_joined}
-use borrow.Author.Rules.{rules}
 use Rattle.report_text.proofs.accepted.put_splits.Goals as goal
 
 -- a list of zeros has an entry a member

@@ -1,10 +1,7 @@
 use native.Mathlib.Omega.{arith}
-use Rattle.limits.specs.Limits.{most_arcs}
-use Rattle.basics.proofs.Lists.{zeros_length}
 use Rattle.answers.proofs.Limits.{tree_limits}
 use Rattle.report_text.proofs.Found.{few_members}
 use Rattle.report_text.proofs.Joined.{tree_joined}
-use borrow.Author.Rules.{rules}
 use Rattle.report_text.proofs.accepted.put_tree.Goals as goal
 
 pub slice_bounds-needs-end : goal.slice_bounds-needs-end

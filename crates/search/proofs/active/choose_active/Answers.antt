@@ -1,11 +1,8 @@
-use Prim.Native.Nat.{◌+◌, ◌-◌, ◌≤◌}
-use lib.ListN.{length}
+use Prim.Native.Nat.{◌+◌}
 use native.Mathlib.Numerals.{add-one}
 use native.Mathlib.Omega.{arith}
-use borrow.Author.Rules.{rules}
-use Rattle.tree.specs.Passes.{Sound, Marked}
 use Rattle.tree.proofs.MemberPass.{up_to_le, up_to_next}
-use Rattle.search.proofs.ActivePass.{Choosing, choosing_start, choosing_on, choosing_end}
+use Rattle.search.proofs.ActivePass.{choosing_start, choosing_on, choosing_end}
 use Rattle.search.proofs.active.choose_active.Goals as goal
 
 pub loop-i-init : goal.loop-i-init

@@ -1,11 +1,7 @@
-use Prim.Native.Nat.{◌+◌, ◌-◌, ◌≤◌}
+use Prim.Native.Nat.{◌-◌, ◌≤◌}
 use lib.ListN.{length}
-use native.Mathlib.Numerals.{add-one}
-use native.Mathlib.Omega.{arith}
-use borrow.Author.Rules.{rules}
 use Rattle.tree.specs.Passes.{Sound, Marked}
-use Rattle.tree.proofs.MemberPass.{up_to_le, up_to_next}
-use Rattle.search.proofs.ActivePass.{Choosing, choosing_start, choosing_on, choosing_end}
+use Rattle.search.proofs.ActivePass.{Choosing}
 use Rattle.search.proofs.active.choose_active.Given as goal
 
 abbrev pub invariant-loop-i : goal.invariant-loop-i

@@ -1,12 +1,8 @@
 use Prim.Native.Nat.{◌+◌, ◌-◌, ◌≤◌, ◌<◌}
-use mathlib.Core.Path.{◌≡◌}
-use lib.ListN.{length, get_or}
-use native.Mathlib.Omega.{arith}
-use borrow.Author.Rules.{rules}
+use lib.ListN.{length}
 use Rattle.limits.specs.Limits.{most_arcs}
-use Rattle.search.proofs.Bound.{Proposed, proposal_length}
-use Rattle.search.proofs.ExcessPass.{Passing, excess, passing_start, passing_on, passing_end}
-use Rattle.search.proofs.ExcessPass.{passing_room, passing_place, passing_fits, passing_excess, passing_carry}
+use Rattle.search.proofs.Bound.{Proposed}
+use Rattle.search.proofs.ExcessPass.{Passing}
 use Rattle.search.proofs.excess.find_excesses.Given as goal
 
 abbrev pub invariant-loop-k : goal.invariant-loop-k
