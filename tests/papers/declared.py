@@ -11,12 +11,13 @@ WORD = r"[^\s:;,(){}\[\]=|]+"
 NO_TERM = r"(?! *(?:pub )?(?:record|data|module|let|use) )"
 TERM = re.compile(rf"^{NO_TERM}( *)((?:(?:pub|abbrev|unfoldable) )*)((?:{WORD} )+):((?: .*)?(?:\n\1 +.*)*)", re.M)
 RECORD = re.compile(rf"^( *)(?:pub )?(?:record|data) ({WORD})(.*(?:\n(?:\1 +.*)?)*)", re.M)
-FUNCTION = re.compile(r'^ *(pub )?(?:extern "C" )?fn (\w+)\(([^)]*)\)', re.M)
+FUNCTION = re.compile(r'^ *(pub )?(?:extern "C" )?fn (\w+)(?:<[^()]*>)?\(([^)]*)\)', re.M)
 CONSTANT = re.compile(r"^ *(?:pub )?const (\w+): \w+ = (\w+);", re.M)
 STRUCT = re.compile(r"^ *(?:pub )?(?:struct|enum) (\w+) \{\n(.*?)^ *\}$", re.M | re.S)
 MEMBER = re.compile(r"^ *(?:pub )?(\w+)|(\w+):", re.M)
 ITEM = re.compile(r"^ *(?:pub )?(?:struct|enum|mod|const) (\w+)", re.M)
-HANDED_ON = re.compile(r"^pub use (\w+)::(?:\w+::)*(\w+);", re.M)
+HANDED_ON = re.compile(r"^pub use (\w+)::(?:\w+::)*(?:(\w+)|\{([^{}]*)\});", re.M)
+WRITTEN = ("src", "specs", "proofs")
 
 
 class Source:
@@ -58,7 +59,8 @@ class Source:
                 self.names.update(parameter[0] for parameter in self.functions[name])
         for name, body in STRUCT.findall(self.text):
             self.fields[name] = {first or other for first, other in MEMBER.findall(body)}
-        self.handed_on = {name: origin for origin, name in HANDED_ON.findall(self.text)}
+        for origin, name, several in HANDED_ON.findall(self.text):
+            self.handed_on.update(dict.fromkeys([name] if name else re.findall(r"\w+", several), origin))
         self.names.update(ITEM.findall(self.text))
 
 
@@ -66,7 +68,9 @@ class Declared:
     """All files of the crates."""
 
     def __init__(self):
-        self.sources = [Source(path) for path in sorted(CRATES.rglob("*")) if path.suffix in (".antt", ".rt")]
+        folders = [folder for written in WRITTEN for folder in CRATES.glob(f"*/{written}")]
+        paths = sorted(path for folder in folders for path in folder.rglob("*"))
+        self.sources = [Source(path) for path in paths if path.suffix in (".antt", ".rt")]
         self.specs = [source for source in self.sources if source.path.parent.name == "specs"]
         self.crates = {path.name for path in CRATES.iterdir() if path.is_dir()}
         listed = re.findall(r"^(\w+):(.*)", CRATE_LIST.read_text("utf-8"), re.M)
