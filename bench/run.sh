@@ -11,7 +11,7 @@ page=docs/PERFORMANCE.md
 out=$(mktemp -d)
 trap 'rm -r "$out"' EXIT
 
-if [ ! -f "$archive" ] || [ -n "$(find crates -name '*.rt' -newer "$archive")" ]; then
+if [ ! -f "$archive" ] || [ -n "$(find crates/*/src -name '*.rt' -newer "$archive")" ]; then
     echo "Making the archive." >&2
     bash build.sh
 fi
