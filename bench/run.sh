@@ -13,7 +13,7 @@ trap 'rm -r "$out"' EXIT
 
 if [ ! -f "$archive" ] || [ -n "$(find crates/*/src -name '*.rt' -newer "$archive")" ]; then
     echo "Making the archive." >&2
-    bash build.sh
+    bash build.sh >&2
 fi
 echo "Building the benchmark, then timing it." >&2
 bash tests/comparison/build.sh "$archive" "$out/bench" bench/src/main.rs
