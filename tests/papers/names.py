@@ -24,7 +24,7 @@ COLUMNS = {
 }
 # What stands in backquotes and is no name: keywords, C's functions, what is printed or set; types, commands.
 WORDS = {"ensures", "requires", "pub", "let .. else", "unsafe extern", "usize", "rt", "read", "write"}
-WORDS |= {"lseek", "axioms=5", "axioms=8", "refused N at PLACE", "-", "CI"}
+WORDS |= {"lseek", "axioms=5", "refused N at PLACE", "-", "CI"}
 NO_NAME = ("&", "[", "rt ", "bash ")
 
 GOES_ON = re.compile(r"(?: \([^`)]*\))?,?(?: and)?(?: so)? ")

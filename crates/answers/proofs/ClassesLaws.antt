@@ -101,7 +101,7 @@ module _ (w : Classed) (out : List ℕ) (ok : classes_check w out ≡ accepted) 
     class_laws =
         record {
           tree = class_accepted w classed_ok c h;
-          by_arc_lem = rw (share_part c h) by_arc_lem;
+          by_arc_laws = rw (share_part c h) by_arc_lem;
           paid = rw (share_part c h) paid_total;
           cost = cost_total;
           equal = paid_total ∙ by_arc_total its_tree (class_accepted w classed_ok c h) ∙ sym cost_total;
@@ -121,7 +121,7 @@ module _ (w : Classed) (out : List ℕ) (ok : classes_check w out ≡ accepted) 
   together : Core (network (summed_tree w)) (map pos (added_shares w out))
   together =
       added_core (network (summed_tree w)) w.classes (λ c. of_arc (counted_costs (class_tree w c))) counted_adds
-      (shares_in w out) (λ c h. (class_laws c h).by_arc_lem.in_core)
+      (shares_in w out) (λ c h. (class_laws c h).by_arc_laws.in_core)
 
 pub classes_laws : ClassesStatement
 classes_laws w out ok =

@@ -135,33 +135,33 @@ stubs_free s t s_ok t_ok differ =
       check = check;
       count = by_both (λ c n. answer c (member_count n));
       members = λ out. by_both (λ c n. answer (c then output_check (member_count n) out) (member_count n));
-      members_list_lem = λ out. by_both (λ c n. written (c then output_check (member_count n) out) out (members n));
+      members_list_same = λ out. by_both (λ c n. written (c then output_check (member_count n) out) out (members n));
       needs = λ out.
           by_both
           (λ c n. answer (c then output_check n.arcs out) (record { whole = whole_cost n; members = member_count n }));
-      needs_list_lem = λ out.
+      needs_list_same = λ out.
           by_both (λ c n. written (c then output_check n.arcs out) out (list n.arcs (need n)));
-      group_cost_lem = λ words.
+      group_cost_same = λ words.
           by_both
           (λ c n.
           answer (c then group_check (member_count n) words)
           (record { size = size (member_count n) (bit words); cost = group_cost n (group_by_number n (bit words)) }));
       total = λ shares. by_both (λ c n. answer (c then proposal_check (member_count n) shares) (difference n shares));
       search = λ shares. by_both (searched shares);
-      search_words_lem = λ shares. by_both (λ c n. words_beside (searched shares c n) (words_of (is_in (named n shares))));
+      search_words_same = λ shares. by_both (λ c n. words_beside (searched shares c n) (words_of (is_in (named n shares))));
       level = λ caps floors out. by_both (leveled caps floors out);
-      level_list_lem = λ caps floors out.
+      level_list_same = λ caps floors out.
           by_both (λ c n. list_after (leveled caps floors out c n) out (level_shares n caps floors));
       cap_sums = λ caps out. by_both (λ c n. answer (summed caps out c n) (all_caps caps));
-      cap_sums_list_lem = λ caps out.
+      cap_sums_list_same = λ caps out.
           by_both (λ c n. written (summed caps out c n) out (list n.arcs (running_sum n caps)));
-      by_arc_lem = λ out. by_both (λ c n. answer (c then output_check (member_count n) out) (member_count n));
-      by_arc_list_lem = λ out. by_both (λ c n. written (c then output_check (member_count n) out) out (by_arc n));
+      by_arc_same = λ out. by_both (λ c n. answer (c then output_check (member_count n) out) (member_count n));
+      by_arc_list_same = λ out. by_both (λ c n. written (c then output_check (member_count n) out) out (by_arc n));
       margin = λ arc out.
           by_all arc
           (λ c n part.
           answer (margined arc out c n) (record { margin = widest part arc; users = user_count n arc }));
-      margin_list_lem = λ arc out.
+      margin_list_same = λ arc out.
           by_all arc (λ c n part. written (margined arc out c n) out (shares_at part (widest part arc)));
       shares = λ k. rw (s_ok, t_ok) (ap (λ (n : Network). padded (by_arc n)) (same_network s t differ));
     }

@@ -28,7 +28,7 @@ pub record ClassLaws (w : Classed) (out : List ℕ) (c : ℕ) : Type 0 where
   pub tree : tree_check (class_tree w c) ≡ accepted
   -- its shares add up, are in the core, pass the audit and are near the Shapley value, all of the class's tree, and its
   -- units left over are given in turn
-  pub by_arc_lem : ByArcLaws (class_tree w c) (shares_in w out c)
+  pub by_arc_laws : ByArcLaws (class_tree w c) (shares_in w out c)
   -- the table has what is paid in the class and what it costs, and these are equal
   pub paid : get_or (classes_totals w out) c 0 ≡ total (λ x. x) (shares_in w out c)
   pub cost : get_or (classes_totals w out) (most_classes + c) 0 ≡ whole_cost (network (class_tree w c))

@@ -42,21 +42,21 @@ pub record SameAnswers (s t : Tree) : Type 0 where
   pub check : tree_check s ≡ tree_check t
   pub count : member_count_answer s ≡ member_count_answer t
   pub members : (out : List ℕ) → members_answer s out ≡ members_answer t out
-  pub members_list_lem : (out : List ℕ) → members_list s out ≡ members_list t out
+  pub members_list_same : (out : List ℕ) → members_list s out ≡ members_list t out
   pub needs : (out : List ℕ) → needs_answer s out ≡ needs_answer t out
-  pub needs_list_lem : (out : List ℕ) → needs_list s out ≡ needs_list t out
-  pub group_cost_lem : (words : List ℕ) → group_cost_answer s words ≡ group_cost_answer t words
+  pub needs_list_same : (out : List ℕ) → needs_list s out ≡ needs_list t out
+  pub group_cost_same : (words : List ℕ) → group_cost_answer s words ≡ group_cost_answer t words
   pub total : (shares : List ℤ) → total_answer s shares ≡ total_answer t shares
   pub search : (shares : List ℤ) → search_answer s shares ≡ search_answer t shares
-  pub search_words_lem : (shares : List ℤ) → search_words s shares ≡ search_words t shares
+  pub search_words_same : (shares : List ℤ) → search_words s shares ≡ search_words t shares
   pub level : (caps floors out : List ℕ) → level_answer s caps floors out ≡ level_answer t caps floors out
-  pub level_list_lem : (caps floors out : List ℕ) → level_list s caps floors out ≡ level_list t caps floors out
+  pub level_list_same : (caps floors out : List ℕ) → level_list s caps floors out ≡ level_list t caps floors out
   pub cap_sums : (caps out : List ℕ) → cap_sums_answer s caps out ≡ cap_sums_answer t caps out
-  pub cap_sums_list_lem : (caps out : List ℕ) → cap_sums_list s caps out ≡ cap_sums_list t caps out
-  pub by_arc_lem : (out : List ℕ) → by_arc_answer s out ≡ by_arc_answer t out
-  pub by_arc_list_lem : (out : List ℕ) → by_arc_list s out ≡ by_arc_list t out
+  pub cap_sums_list_same : (caps out : List ℕ) → cap_sums_list s caps out ≡ cap_sums_list t caps out
+  pub by_arc_same : (out : List ℕ) → by_arc_answer s out ≡ by_arc_answer t out
+  pub by_arc_list_same : (out : List ℕ) → by_arc_list s out ≡ by_arc_list t out
   pub margin : (arc : ℕ) (out : List ℕ) → margin_answer s arc out ≡ margin_answer t arc out
-  pub margin_list_lem : (arc : ℕ) (out : List ℕ) → margin_list s arc out ≡ margin_list t arc out
+  pub margin_list_same : (arc : ℕ) (out : List ℕ) → margin_list s arc out ≡ margin_list t arc out
   -- a state holds the costs as they are handed in, but the same shares
   pub shares : (n : ℕ) → (made_state s n).shares ≡ (made_state t n).shares
 

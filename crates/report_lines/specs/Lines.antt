@@ -74,17 +74,17 @@ level_share (not_split number place shortfall) share = ascii " level -"
 
 -- a member, its vertex, and its three shares
 abbrev pub member_line : LevelAnswer → ℕ → ℕ → ℤ → ℕ → ℕ → List ℕ
-member_line level j vertex proposed by_arc_lem share =
+member_line level j vertex proposed by_arc share =
     decimal j
     ++ labelled " at " vertex
     ++ labelled_signed ": proposed " proposed
-    ++ labelled " by-arc " by_arc_lem
+    ++ labelled " by-arc " by_arc
     ++ level_share level share
     ++ newline
 
 -- the lines of the members below j; the lists have an entry a member
 unfoldable pub member_lines : LevelAnswer → List ℕ → List ℤ → List ℕ → List ℕ → ℕ → List ℕ
-member_lines level vertices proposed by_arc_lem shares zero = []
-member_lines level vertices proposed by_arc_lem shares (suc j) =
-    member_lines level vertices proposed by_arc_lem shares j
-    ++ member_line level j (get_or vertices j 0) (get_or proposed j (pos 0)) (get_or by_arc_lem j 0) (get_or shares j 0)
+member_lines level vertices proposed by_arc shares zero = []
+member_lines level vertices proposed by_arc shares (suc j) =
+    member_lines level vertices proposed by_arc shares j
+    ++ member_line level j (get_or vertices j 0) (get_or proposed j (pos 0)) (get_or by_arc j 0) (get_or shares j 0)

@@ -26,14 +26,14 @@ module _ (t : Tree) (proposed : List ℤ) {a b c : List ℕ} {at e f n : ℕ} (n
   tree_joined total_is search_is words_is p q = put_then p (rw (n_is, total_is, search_is, words_is) at q)
 
   -- the lists before the splits are all 0
-  pub split_joined : (caps : List ℕ) {level : LevelAnswer} {vertices floors by_arc_lem shares by_arc₀ shares₀ : List ℕ}
+  pub split_joined : (caps : List ℕ) {level : LevelAnswer} {vertices floors by_arc shares by_arc₀ shares₀ : List ℕ}
       → floors ≡ no_floors t
       → by_arc₀ ≡ blank t
       → shares₀ ≡ blank t
       → Put a at (level_line level) b e
-      → Put b e (member_lines level vertices proposed by_arc_lem shares n) c f
+      → Put b e (member_lines level vertices proposed by_arc shares n) c f
       → vertices ≡ members (network t)
-      → by_arc_lem ≡ by_arc_list t by_arc₀
+      → by_arc ≡ by_arc_list t by_arc₀
       → level ≡ level_answer t caps floors shares₀
       → shares ≡ level_list t caps floors shares₀
       → Put a at (split_text t caps proposed) c f

@@ -20,7 +20,6 @@ mod steps;
 mod write_case;
 
 use std::io;
-use std::io::{BufWriter, Write};
 
 // The room for a line: a job has two digits a byte, and up to job_lists::MOST_BYTES bytes.
 const MOST_LINE: usize = 70000;
@@ -31,7 +30,5 @@ const MOST_PART: usize = 65536;
 fn main(rt: HostRuntime) -> io::Result<()> {
     let mut part = [0u8; MOST_PART];
     let mut line = [0u8; MOST_LINE];
-    let mut writer = BufWriter::new(rt.alloc(), io::writer(&rt))?;
-    lines::run_all(&mut rt.reader(), &mut writer, &mut part, &mut line)?;
-    writer.flush()
+    lines::run_all(&mut rt.reader(), &mut io::writer(&rt), &mut part, &mut line)
 }
