@@ -25,6 +25,8 @@ COLUMNS = {
 # What stands in backquotes and is no name: keywords, C's functions, what is printed or set; types, commands.
 WORDS = {"ensures", "requires", "pub", "let .. else", "unsafe extern", "usize", "rt", "read", "write"}
 WORDS |= {"lseek", "axioms=5", "refused N at PLACE", "-", "CI"}
+# Of the standard library and the language.
+WORDS |= {"Result", "Ok", "Err", "Option", "From", "?", "for", "while", "Result<(), Refusal>", "From<Refusal>"}
 NO_NAME = ("&", "[", "rt ", "bash ")
 
 GOES_ON = re.compile(r"(?: \([^`)]*\))?,?(?: and)?(?: so)? ")

@@ -6,7 +6,7 @@ import sys
 
 TOP = pathlib.Path(__file__).resolve().parents[2]
 SPECIFICATION = TOP / 'docs/SPECIFICATION.md'
-CODE = TOP / 'crates/answer_forms/src/refusals.rt'
+CODE = TOP / 'crates/answer_forms/src/reason.rt'
 HEADER = TOP / 'include/zilqodur.h'
 
 
@@ -17,9 +17,10 @@ def specified():
 
 
 def coded():
-    """The constants, each with the comment above it as its sentence."""
-    rows = re.findall(r'(?m)^// (.*)\.\npub const ([A-Z_]+): u32 = (\d+);$', CODE.read_text())
-    return {int(number): (name, when[0].lower() + when[1:]) for when, name, number in rows}
+    """The variants of the enum, each with the comment above it as its sentence; ArcCount is ARC_COUNT elsewhere."""
+    rows = re.findall(r'(?m)^    // (.*)\.\n    ([A-Za-z]+) = (\d+),$', CODE.read_text())
+    upper = {name: re.sub(r'(?<!^)(?=[A-Z])', '_', name).upper() for _, name, _ in rows}
+    return {int(number): (upper[name], when[0].lower() + when[1:]) for when, name, number in rows}
 
 
 def in_header():

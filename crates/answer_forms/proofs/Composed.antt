@@ -12,8 +12,7 @@ use native.Mathlib.Omega.{arith}
 use Rattle.answer_forms.specs.Answer.{Check, accepted, refused, fault, ◌then◌, value, refusal, answer}
 use Rattle.answer_forms.specs.Checked.{check_of}
 use Rattle.answer_forms.specs.declared.Refusal.{Refusal}
-use Rattle.answer_forms.specs.declared.Checked.{Checked}
-use Rattle.answer_forms.specs.declared.Checked.TheVariants.{Refused}
+use Rattle.std.specs.Prelude.{Result, Err}
 
 not_refused : {number place : ℕ} → refused number place ≡ accepted → ⊥
 not_refused e = let z : ◌≡◌ {A = ℕ} 0 1 = cc in omega arith
@@ -35,8 +34,8 @@ pub turned_down : {check found : Check} {number place : ℕ} (next : Check)
     → found ≡ check → check ≡ refused number place → found ≡ (check then next)
 turned_down next is e = rw e (is ∙ e)
 
-pub stopped : {check : Check} {c : Checked} {x : Refusal} (next : Check)
-    → check_of c ≡ check → c ≡ Refused x → check_of c ≡ (check then next)
+pub stopped : {check : Check} {c : Result Unit Refusal} {x : Refusal} (next : Check)
+    → check_of c ≡ check → c ≡ Err x → check_of c ≡ (check then next)
 stopped next is e = rw (← is, e)
 
 pub went_on : {check next found : Check} → check ≡ accepted → found ≡ next → found ≡ (check then next)

@@ -1,2 +1,3 @@
 pub mod Composed
-pub mod Opened
+pub mod PassedOn
+pub mod Reasons

@@ -1,13 +1,14 @@
--- What each case of Checked stands for.
-use Rattle.answer_forms.specs.Answer.{Check, accepted, refused}
+-- What each case of an answer stands for.
+use Rattle.std.specs.Prelude.{Result, Ok, Err}
+use Rattle.answer_forms.specs.Answer.{Check, accepted, refused, Answer, value, refusal}
+use Rattle.answer_forms.specs.Reasons.{number_of}
 use Rattle.answer_forms.specs.declared.Refusal.{Refusal}
-use Rattle.answer_forms.specs.declared.Checked.{Checked}
-use Rattle.answer_forms.specs.declared.Checked.TheVariants.{Accepted, Refused}
 
-abbrev pub check_of : Checked → Check
-check_of Accepted = accepted
-check_of (Refused r) = refused r.number r.place
+abbrev pub check_of : Result Unit Refusal → Check
+check_of (Ok _) = accepted
+check_of (Err r) = refused (number_of r.reason) r.place
 
-abbrev pub refusal_of : Checked → Refusal
-refusal_of Accepted = record { number = 0; place = 0 }
-refusal_of (Refused r) = r
+-- an entry's answer whose value stands for itself
+abbrev pub answer_of : {A : Type 0} → Result A Refusal → Answer A
+answer_of (Ok x) = value x
+answer_of (Err r) = refusal (number_of r.reason) r.place

@@ -1,41 +1,35 @@
-// The form of every check's answer, and of a refusal; the refusals' numbers.
+// The form of a refusal, and so of every check's answer: nothing, or the first refusal.
 #![tactic(auto)]
 
-pub mod refusals;
+mod reason;
 
 ghost use Rattle.std.specs.Prelude.{◌≡◌};
-ghost use Rattle.answer_forms.specs.Answer.{refused};
-ghost use Rattle.answer_forms.specs.Checked.{check_of, refusal_of};
+ghost use Rattle.answer_forms.specs.Reasons.{number_of};
 
-// A refusal: its number, and the place where the fault stands.
-#[derive(Clone, Copy)]
+pub use reason::Reason;
+use std::error::Error;
+use std::fmt;
+
+// A refusal: why, and the place where the fault stands.
+#[derive(Clone, Copy, Debug, PartialEq, Eq)]
 pub struct Refusal {
-    pub number: u32,
+    pub reason: Reason,
     pub place: usize,
 }
 
-// What a check finds.
-#[derive(Clone, Copy)]
-pub enum Checked {
-    Accepted,
-    Refused(Refusal),
-}
-
-pub fn refuse(number: u32, place: usize) -> Checked
-    ensures { check_of result ≡ refused number place }
-{
-    Checked::Refused(Refusal { number, place })
-}
-
-// The refusal that a check found; 0 at 0 where it found none.
-pub fn refusal_of(c: Checked) -> Refusal
-    ensures { result ≡ refusal_of c }
-{
-    match c {
-        Checked::Accepted => Refusal {
-            number: 0,
-            place: 0,
-        },
-        Checked::Refused(r) => r,
+impl Refusal {
+    // The number of the reason.
+    pub fn number(self) -> u32
+        ensures { result ≡ number_of self.reason }
+    {
+        u32::from(self.reason)
     }
 }
+
+impl fmt::Display for Refusal {
+    fn fmt<W: fmt::Write>(&self, f: &mut fmt::Formatter<W>) -> fmt::Result {
+        write!(f, "{} at {}", self.number(), self.place)
+    }
+}
+
+impl Error for Refusal {}

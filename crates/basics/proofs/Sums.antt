@@ -6,13 +6,13 @@
 --   sum_at, term_le                   the one term that a test leaves; a term is at most the sum
 --   sum_but_one, sum_gap              two sums whose terms are the same but one; two that are ordered by points
 --   sum_parts, sum_longer, sum_bound  by a test and its negation; a longer range; a bound
---   some_of, some_is                  `some` from a witness, and a witness `Some` from it
+--   some_of, some_is, some_none       `some` from a witness, a witness `Some` from it, and that there is none
 --   sum_pos, sum_more_some            a term that makes a sum positive, or greater than another
 --   sum₀_is                           a sum from 0 as one from 1; its laws sum₀_add and so on come from there
 --   sum₀_first                        its first term, then the others
 use Prim.Native.Nat.{ℕ, zero, suc, pred, ◌+◌, ◌*◌, ◌-◌, ◌≤◌, ◌<◌, zero-le}
 use mathlib.Core.Path.{◌≡◌, refl, sym, ap, ap₂, ◌∙◌}
-use mathlib.Core.Bool.{Bool, true, false, not, false≢true}
+use mathlib.Core.Bool.{Bool, true, false, not, ◌||◌, false≢true}
 use mathlib.Core.Logic.{⊎_elim}
 use native.Mathlib.Nat.{le_refl, mul-zero, mul-one, suc-mul}
 use native.Mathlib.Decide.{dec_le, dec_lt, ℕ_discrete}
@@ -167,6 +167,11 @@ some_is (suc m) f e =
     (λ (h : some m f ≡ true). some_more m (some_is m f h))
     (λ (h : f (suc m) ≡ true). record { which = suc m; within = in_last m; passes = h })
     (or_cases (some m f) (f (suc m)) e)
+
+pub some_none : (m : ℕ) (f : ℕ → Bool) → ((i : ℕ) → i < m → f (suc i) ≡ false) → some m f ≡ false
+some_none zero f h = refl
+some_none (suc m) f h =
+    ap₂ (λ (a b : Bool). a || b) (some_none m f (λ i l. h i (omega arith))) (h m (omega arith))
 
 -- a sum above 0 has a term above 0
 pub sum_pos : (m : ℕ) (f : ℕ → ℕ) → 0 < sum m f → Some m (λ k. ltb 0 (f k))

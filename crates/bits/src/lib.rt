@@ -10,7 +10,7 @@ ghost use Rattle.answers.specs.Checks.{group_check};
 ghost use Rattle.answer_forms.specs.Checked.{check_of};
 ghost use Rattle.bits.specs.Words.{ClearRun};
 
-use answer_forms::{Checked, refusals};
+use answer_forms::{Reason, Refusal};
 use limits::GROUP_BITS;
 
 // The word with bit i set.
@@ -37,7 +37,7 @@ pub fn put(words: &mut [u64; 16], j: usize, on: bool)
 fn ones_in(word: u64) -> usize
     ensures { result ≡ size 64 (digit word) }
 {
-    u64::count_ones(word) as usize
+    word.count_ones() as usize
 }
 
 // How many members are in the group.
@@ -45,10 +45,8 @@ pub fn size_of(words: [u64; 16]) -> usize
     ensures { result ≡ size group_bits (bit words) }
 {
     let mut total: usize = 0;
-    let mut i: usize = 0;
-    while i < 16 {
-        total += ones_in(words[i]);
-        i += 1;
+    for word in words {
+        total += ones_in(word);
     }
     total
 }
@@ -68,16 +66,16 @@ fn clear_run(words: [u64; 16], j: usize) -> usize
 }
 
 // 5: no bit stands at or beyond the number of members.
-pub fn check_group(members: usize, words: [u64; 16]) -> Checked
+pub fn check_group(members: usize, words: [u64; 16]) -> Result<(), Refusal>
     ensures { check_of result ≡ group_check members words }
 {
     let mut j = members;
     while j < GROUP_BITS {
         let clear = clear_run(words, j);
         if clear == 0 {
-            return answer_forms::refuse(refusals::GROUP_BIT, j);
+            return Err(Reason::GroupBit.at(j));
         }
         j += clear;
     }
-    Checked::Accepted
+    Ok(())
 }

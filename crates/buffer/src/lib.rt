@@ -8,10 +8,7 @@ pub fn put(out: &mut [u8], at: usize, piece: &[u8]) -> usize
     requires { at + length piece.now ≤ length out.old }
     ensures { Put out.old at piece.now out.new result }
 {
-    let mut i = 0;
-    while i < piece.len() {
-        out[at + i] = piece[i];
-        i += 1;
-    }
-    at + piece.len()
+    let end = at + piece.len();
+    out[at..end].copy_from_slice(piece);
+    end
 }

@@ -6,13 +6,13 @@ use mathlib.Core.List.{List, []}
 use native.Mathlib.Nat.{div-le_self}
 use native.Mathlib.Omega.{arith}
 use borrow.Author.Tests.{ne_eqb}
-use lib.ListN.{length, get_or}
+use lib.ListN.{length, get_or, set}
 use lib.Dec.{eqb}
 use Rattle.limits.specs.Limits.{most_cost, most_arcs}
 use Rattle.basics.specs.Sum.{pick, list}
 use Rattle.basics.proofs.Bools.{eqb_comm, pick_no, pick_le}
 use Rattle.basics.proofs.Sums.{sum_cong, sum_add, sum_zero, sum_at, sum_bound}
-use Rattle.basics.proofs.Filling.{Rewriting}
+use Rattle.basics.proofs.Filling.{Rewriting, rewriting_on}
 use Rattle.basics.proofs.Lists.{list_is}
 use Rattle.game.specs.Network.{Network, at_or_below}
 use Rattle.game.specs.Tree.{network_of, of_arc}
@@ -27,7 +27,8 @@ module _ (n : Network) (rooted : Rooted n) (x : ℕ → ℕ) where
 
   -- arc k is v's own, or above v's parent, and never both
   above_pick : (k v : ℕ)
-      → pick (at_or_below n k (suc v)) (x k) ≡ pick (eqb (suc v) k) (x k) + pick (at_or_below n k (n.parent (suc v))) (x k)
+      → pick (at_or_below n k (suc v)) (x k)
+      ≡ pick (eqb (suc v) k) (x k) + pick (at_or_below n k (n.parent (suc v))) (x k)
   above_pick k v =
       below_pick n rooted k v (x k)
       ∙ ap (λ (b : Bool). pick b (x k) + pick (at_or_below n k (n.parent (suc v))) (x k)) (eqb_comm k (suc v))
@@ -73,20 +74,26 @@ module _ (ps cs counts : List ℕ) where
       way_at zero h = sym (above_source (network_of ps [] []) sound.rising x)
       way_at (suc u) h = s.done u (omega arith)
 
-      module _ (h : i < length ps) {above part : ℕ} (up : above ≡ of_arc parts (get_or ps i 0))
-          (own : part ≡ get_or cs i 0 / get_or parts i 0) where
-        pub way_on : above + part ≡ sum_above (network_of ps [] []) x (suc i)
+      -- arc i + 1, as the code reads its parent and takes the two parts
+      module _ (h : i < length ps) {parent above own part : ℕ} (at : parent ≡ get_or ps i 0)
+          (up : above ≡ of_arc parts parent) (divided : own ≡ get_or cs i 0 / get_or parts i 0)
+          (same : part ≡ own) where
+        way_on : above + part ≡ sum_above (network_of ps [] []) x (suc i)
         way_on =
             omega (
               arith,
-              up,
+              up ∙ ap (of_arc parts) at,
               way_at (get_or ps i 0) (sound.rising i),
-              own ∙ ap (λ (c : ℕ). get_or cs i 0 / c) (s.rest i (omega arith)),
+              same ∙ divided ∙ ap (λ (c : ℕ). get_or cs i 0 / c) (s.rest i (omega arith)),
               above_step (network_of ps [] []) sound.rising x i h,
             )
 
         pub way_small : above + part ≤ most_arcs * most_cost
         way_small = omega (arith, way_on, parts_small (suc i))
+
+        pub walking_on : length counts ≡ length ps → Walking (set parts i (above + part)) (i + 1)
+        walking_on sized =
+            rewriting_on counts (λ u. sum_above (network_of ps [] []) x (suc u)) s (omega arith) (above + part) way_on
 
       pub way_end : length ps ≤ i → length counts ≡ length ps
           → parts ≡ list (length ps) (sum_above (network_of ps [] []) x)

@@ -5,13 +5,11 @@ ghost use Rattle.std.specs.Prelude.{◌≡◌, ◌-◌, ◌/◌, ◌%◌, ◌≤
 pub fn part_of(cost: u32, users: u32) -> u32
     ensures { result ≡ cost / users }
 {
-    if users == 0 {
-        return 0;
+    match users {
+        0 => 0,
+        1 => cost,
+        _ => cost / users,
     }
-    if users == 1 {
-        return cost;
-    }
-    cost / users
 }
 
 // What the equal parts leave over, less than the number of users; nothing where there are none.

@@ -25,11 +25,9 @@ pub fn write_parts(parents: &[u16], costs: &[u32], parts: &mut [u64])
         (sum_above (network_of parents.now [] [])
         (λ k. of_arc costs.now k / of_arc parts.old k)) }
 {
-    let mut i = 0;
-    while i < parents.len() {
-        let above = at_vertex(parts, parents[i] as usize);
+    for i in 0..parents.len() {
+        let above = at_vertex(parts, usize::from(parents[i]));
         let part = part_of(costs[i], parts[i] as u32);
-        parts[i] = above + part as u64;
-        i += 1;
+        parts[i] = above + u64::from(part);
     }
 }

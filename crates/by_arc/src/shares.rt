@@ -27,12 +27,10 @@ pub fn write_shares(
         (share_of vertices.now starts.now keys.now parts.now) }
 {
     let base = vertices.len() as u32;
-    let mut j = 0;
-    while j < vertices.len() {
-        let v = vertices[j] as usize;
+    for j in 0..vertices.len() {
+        let v = usize::from(vertices[j]);
         let place = at_vertex(starts, v) as usize;
         let tally = tally_of(keys[place], base);
-        shares[j] = at_vertex(parts, v) + tally as u64;
-        j += 1;
+        shares[j] = at_vertex(parts, v) + u64::from(tally);
     }
 }

@@ -15,10 +15,8 @@ fn write_numbers(order: &[u16], keys: &mut [u32])
     requires { length keys.old ≡ length order.now }
     ensures { keys.new ≡ order.now }
 {
-    let mut i = 0;
-    while i < order.len() {
-        keys[i] = order[i] as u32;
-        i += 1;
+    for i in 0..order.len() {
+        keys[i] = u32::from(order[i]);
     }
 }
 
@@ -43,13 +41,11 @@ fn take_turns(
         order.now keys.new }
 {
     let base = order.len() as u32;
-    let mut k = costs.len();
-    while 0 < k {
-        let users = counts[k - 1] as usize;
-        let more = left_of(costs[k - 1], users as u32);
-        let from = starts[k - 1] as usize;
+    for i in (0..costs.len()).rev() {
+        let users = counts[i] as usize;
+        let more = left_of(costs[i], users as u32);
+        let from = starts[i] as usize;
         turns::give_in_turn(&mut keys[from..from + users], base, more);
-        k -= 1;
     }
 }
 

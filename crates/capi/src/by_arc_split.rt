@@ -4,7 +4,7 @@ ghost use Rattle.game.specs.Tree.{tree_of};
 ghost use Rattle.answers.specs.ByArc.{by_arc_answer, by_arc_list};
 ghost use Rattle.capi.specs.Structs.{encode_members, decode_members};
 
-use crate::members::{ZilqodurMembers, encode};
+use crate::members::ZilqodurMembers;
 
 #[unsafe(no_mangle)]
 pub extern "C" fn zilqodur_split_by_arc(
@@ -19,5 +19,5 @@ pub extern "C" fn zilqodur_split_by_arc(
     ensures out_after { out.new
         ≡ by_arc_list (tree_of parents.now costs.now marks.now) out.old }
 {
-    encode(engine::split_by_arc(parents, costs, marks, out))
+    ZilqodurMembers::from(engine::split_by_arc(parents, costs, marks, out))
 }

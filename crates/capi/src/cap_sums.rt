@@ -2,33 +2,35 @@
 ghost use Rattle.std.specs.Prelude.{◌≡◌};
 ghost use Rattle.game.specs.Tree.{tree_of};
 ghost use Rattle.answers.specs.CapSums.{cap_sums_answer, cap_sums_list};
-ghost use Rattle.engine.specs.Outcomes.{cap_sums_of};
+ghost use Rattle.answer_forms.specs.Checked.{answer_of};
 ghost use Rattle.capi.specs.Structs.{encode_cap_sums, decode_cap_sums};
 
-use engine::CapSumsFound;
+use engine::Refusal;
 
 #[repr(C)]
-#[derive(Clone, Copy)]
+#[derive(Clone, Copy, Debug, PartialEq, Eq)]
 pub struct ZilqodurCapSums {
     pub refusal: u32,
     pub place: usize,
     pub total: u64,
 }
 
-fn encode(found: CapSumsFound) -> ZilqodurCapSums
-    ensures { result ≡ encode_cap_sums (cap_sums_of found) }
-{
-    match found {
-        CapSumsFound::Total(total) => ZilqodurCapSums {
-            refusal: 0,
-            place: 0,
-            total,
-        },
-        CapSumsFound::Refused(r) => ZilqodurCapSums {
-            refusal: r.number,
-            place: r.place,
-            total: 0,
-        },
+impl From<Result<u64, Refusal>> for ZilqodurCapSums {
+    ghost from_gives = { λ found s. s ≡ encode_cap_sums (answer_of found) };
+
+    fn from(found: Result<u64, Refusal>) -> Self {
+        match found {
+            Ok(total) => ZilqodurCapSums {
+                refusal: 0,
+                place: 0,
+                total,
+            },
+            Err(refusal) => ZilqodurCapSums {
+                refusal: refusal.number(),
+                place: refusal.place,
+                total: 0,
+            },
+        }
     }
 }
 
@@ -48,5 +50,5 @@ pub extern "C" fn zilqodur_list_cap_sums(
         ≡ cap_sums_list (tree_of parents.now costs.now marks.now)
         caps.now out.old }
 {
-    encode(engine::list_cap_sums(parents, costs, marks, caps, out))
+    ZilqodurCapSums::from(engine::list_cap_sums(parents, costs, marks, caps, out))
 }

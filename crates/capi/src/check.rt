@@ -6,27 +6,29 @@ ghost use Rattle.answers.specs.Level.{caps_check};
 ghost use Rattle.answer_forms.specs.Checked.{check_of};
 ghost use Rattle.capi.specs.Structs.{encode_check, decode_check};
 
-use answer_forms::Checked;
+use engine::Refusal;
 
 #[repr(C)]
-#[derive(Clone, Copy)]
+#[derive(Clone, Copy, Debug, PartialEq, Eq)]
 pub struct ZilqodurCheck {
     pub refusal: u32,
     pub place: usize,
 }
 
-fn encode(found: Checked) -> ZilqodurCheck
-    ensures { result ≡ encode_check (check_of found) }
-{
-    match found {
-        Checked::Accepted => ZilqodurCheck {
-            refusal: 0,
-            place: 0,
-        },
-        Checked::Refused(r) => ZilqodurCheck {
-            refusal: r.number,
-            place: r.place,
-        },
+impl From<Result<(), Refusal>> for ZilqodurCheck {
+    ghost from_gives = { λ found s. s ≡ encode_check (check_of found) };
+
+    fn from(found: Result<(), Refusal>) -> Self {
+        match found {
+            Ok(()) => ZilqodurCheck {
+                refusal: 0,
+                place: 0,
+            },
+            Err(refusal) => ZilqodurCheck {
+                refusal: refusal.number(),
+                place: refusal.place,
+            },
+        }
     }
 }
 
@@ -40,7 +42,7 @@ pub extern "C" fn zilqodur_check_tree(
         ≡ tree_check (tree_of parents.now costs.now marks.now) }
     ensures value { result ≡ encode_check (decode_check result) }
 {
-    encode(engine::check_tree(parents, costs, marks))
+    ZilqodurCheck::from(engine::check_tree(parents, costs, marks))
 }
 
 #[unsafe(no_mangle)]
@@ -48,7 +50,7 @@ pub extern "C" fn zilqodur_check_caps(members: usize, caps: &[u64]) -> ZilqodurC
     ensures result_value { decode_check result ≡ caps_check members caps.now }
     ensures value { result ≡ encode_check (decode_check result) }
 {
-    encode(engine::check_caps(members, caps))
+    ZilqodurCheck::from(engine::check_caps(members, caps))
 }
 
 #[unsafe(no_mangle)]
@@ -56,5 +58,5 @@ pub extern "C" fn zilqodur_check_proposal(members: usize, proposal: &[i64]) -> Z
     ensures result_value { decode_check result ≡ proposal_check members proposal.now }
     ensures value { result ≡ encode_check (decode_check result) }
 {
-    encode(engine::check_proposal(members, proposal))
+    ZilqodurCheck::from(engine::check_proposal(members, proposal))
 }

@@ -1,14 +1,14 @@
 // The split in cost classes.
 ghost use Rattle.std.specs.Prelude.{◌≡◌};
 ghost use Rattle.answers.specs.Classes.{classed_of, classes_answer, classes_list, classes_totals};
-ghost use Rattle.engine.specs.Outcomes.{member_count_of};
+ghost use Rattle.answer_forms.specs.Checked.{answer_of};
 ghost use Rattle.capi.specs.Structs.{encode_classes, decode_classes};
 
-use engine::MemberCount;
+use engine::ClassSplit;
 
 // The totals paid in each of four classes, then those of cost.
 #[repr(C)]
-#[derive(Clone, Copy)]
+#[derive(Clone, Copy, Debug, PartialEq, Eq)]
 pub struct ZilqodurClassSplit {
     pub refusal: u32,
     pub place: usize,
@@ -16,22 +16,25 @@ pub struct ZilqodurClassSplit {
     pub totals: [u64; 8],
 }
 
-fn encode(found: MemberCount, totals: [u64; 8]) -> ZilqodurClassSplit
-    ensures { result ≡ encode_classes (member_count_of found) totals }
-{
-    match found {
-        MemberCount::Members(members) => ZilqodurClassSplit {
-            refusal: 0,
-            place: 0,
-            members,
-            totals,
-        },
-        MemberCount::Refused(r) => ZilqodurClassSplit {
-            refusal: r.number,
-            place: r.place,
-            members: 0,
-            totals,
-        },
+impl From<ClassSplit> for ZilqodurClassSplit {
+    ghost from_gives = { λ split s. s ≡ encode_classes (answer_of split.answer) split.totals };
+
+    fn from(split: ClassSplit) -> Self {
+        let ClassSplit { answer, totals } = split;
+        match answer {
+            Ok(members) => ZilqodurClassSplit {
+                refusal: 0,
+                place: 0,
+                members,
+                totals,
+            },
+            Err(refusal) => ZilqodurClassSplit {
+                refusal: refusal.number(),
+                place: refusal.place,
+                members: 0,
+                totals,
+            },
+        }
     }
 }
 
@@ -54,8 +57,5 @@ pub extern "C" fn zilqodur_split_classes(
         ≡ classes_list (classed_of parents.now costs.now marks.now classes)
         out.old }
 {
-    let split = engine::split_classes(parents, costs, marks, classes, out);
-    let answer = split.answer;
-    let totals = split.totals;
-    encode(answer, totals)
+    ZilqodurClassSplit::from(engine::split_classes(parents, costs, marks, classes, out))
 }

@@ -5,10 +5,10 @@ ghost use Rattle.answers.specs.GroupCost.{group_cost_answer};
 ghost use Rattle.engine.specs.Outcomes.{group_cost_of};
 ghost use Rattle.capi.specs.Structs.{encode_group, decode_group};
 
-use engine::GroupCost;
+use engine::{GroupCost, Refusal};
 
 #[repr(C)]
-#[derive(Clone, Copy)]
+#[derive(Clone, Copy, Debug, PartialEq, Eq)]
 pub struct ZilqodurGroup {
     pub refusal: u32,
     pub place: usize,
@@ -16,22 +16,24 @@ pub struct ZilqodurGroup {
     pub cost: u64,
 }
 
-fn encode(found: GroupCost) -> ZilqodurGroup
-    ensures { result ≡ encode_group (group_cost_of found) }
-{
-    match found {
-        GroupCost::Cost { size, cost } => ZilqodurGroup {
-            refusal: 0,
-            place: 0,
-            size,
-            cost,
-        },
-        GroupCost::Refused(r) => ZilqodurGroup {
-            refusal: r.number,
-            place: r.place,
-            size: 0,
-            cost: 0,
-        },
+impl From<Result<GroupCost, Refusal>> for ZilqodurGroup {
+    ghost from_gives = { λ found s. s ≡ encode_group (group_cost_of found) };
+
+    fn from(found: Result<GroupCost, Refusal>) -> Self {
+        match found {
+            Ok(group) => ZilqodurGroup {
+                refusal: 0,
+                place: 0,
+                size: group.size,
+                cost: group.cost,
+            },
+            Err(refusal) => ZilqodurGroup {
+                refusal: refusal.number(),
+                place: refusal.place,
+                size: 0,
+                cost: 0,
+            },
+        }
     }
 }
 
@@ -47,5 +49,5 @@ pub extern "C" fn zilqodur_group_cost(
         group.now }
     ensures value { result ≡ encode_group (decode_group result) }
 {
-    encode(engine::group_cost(parents, costs, marks, *group))
+    ZilqodurGroup::from(engine::group_cost(parents, costs, marks, *group))
 }

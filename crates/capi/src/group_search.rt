@@ -5,12 +5,12 @@ ghost use Rattle.answers.specs.Audit.{search_answer, search_words};
 ghost use Rattle.engine.specs.Outcomes.{search_of};
 ghost use Rattle.capi.specs.Structs.{searched_struct, encode_search, decode_search, VerdictUnlessRefused};
 
-use engine::GroupFound;
+use engine::Searched;
 
 // The verdict is 0 in a refusal, 1 where there is no group, 2 where one is found.
 // The words are 0 except where a group is found.
 #[repr(C)]
-#[derive(Clone, Copy)]
+#[derive(Clone, Copy, Debug, PartialEq, Eq)]
 pub struct ZilqodurSearch {
     pub refusal: u32,
     pub place: usize,
@@ -34,20 +34,26 @@ fn searched(verdict: u32, amount: u64, size: usize, group: [u64; 16]) -> Zilqodu
     }
 }
 
-fn encode(found: GroupFound, group: [u64; 16]) -> ZilqodurSearch
-    ensures { result ≡ encode_search (search_of found) group }
-{
-    match found {
-        GroupFound::NoGroup => searched(1, 0, 0, group),
-        GroupFound::Group { amount, size } => searched(2, amount, size, group),
-        GroupFound::Refused(r) => ZilqodurSearch {
-            refusal: r.number,
-            place: r.place,
-            verdict: 0,
-            amount: 0,
-            size: 0,
-            group,
-        },
+impl From<Searched> for ZilqodurSearch {
+    ghost from_gives = { λ found s. s ≡ encode_search (search_of found.answer) found.group };
+
+    fn from(found: Searched) -> Self {
+        let Searched {
+            answer,
+            group: words,
+        } = found;
+        match answer {
+            Ok(None) => searched(1, 0, 0, words),
+            Ok(Some(group)) => searched(2, group.amount, group.size, words),
+            Err(refusal) => ZilqodurSearch {
+                refusal: refusal.number(),
+                place: refusal.place,
+                verdict: 0,
+                amount: 0,
+                size: 0,
+                group: words,
+            },
+        }
     }
 }
 
@@ -67,8 +73,5 @@ pub extern "C" fn zilqodur_find_group(
         proposal.now) }
     ensures verdict_unless_refused { VerdictUnlessRefused result.verdict result.refusal }
 {
-    let searched = engine::find_group(parents, costs, marks, proposal);
-    let answer = searched.answer;
-    let group = searched.group;
-    encode(answer, group)
+    ZilqodurSearch::from(engine::find_group(parents, costs, marks, proposal))
 }

@@ -4,10 +4,11 @@ ghost use Rattle.job.specs.Reader.{lent, job_answer, job_lists, job_read_of};
 ghost use Rattle.job2.specs.Reader.{lent2, job2_answer, job2_lists};
 ghost use Rattle.capi.specs.Structs.{encode_job, decode_job};
 
+use engine::Refusal;
 use job::JobRead;
 
 #[repr(C)]
-#[derive(Clone, Copy)]
+#[derive(Clone, Copy, Debug, PartialEq, Eq)]
 pub struct ZilqodurJob {
     pub refusal: u32,
     pub place: usize,
@@ -16,28 +17,26 @@ pub struct ZilqodurJob {
     pub note: usize,
 }
 
-fn encode(found: JobRead) -> ZilqodurJob
-    ensures { result ≡ encode_job (job_read_of found) }
-{
-    match found {
-        JobRead::Read {
-            arcs,
-            members,
-            note,
-        } => ZilqodurJob {
-            refusal: 0,
-            place: 0,
-            arcs,
-            members,
-            note,
-        },
-        JobRead::Refused(r) => ZilqodurJob {
-            refusal: r.number,
-            place: r.place,
-            arcs: 0,
-            members: 0,
-            note: 0,
-        },
+impl From<Result<JobRead, Refusal>> for ZilqodurJob {
+    ghost from_gives = { λ found s. s ≡ encode_job (job_read_of found) };
+
+    fn from(found: Result<JobRead, Refusal>) -> Self {
+        match found {
+            Ok(job) => ZilqodurJob {
+                refusal: 0,
+                place: 0,
+                arcs: job.arcs,
+                members: job.members,
+                note: job.note,
+            },
+            Err(refusal) => ZilqodurJob {
+                refusal: refusal.number(),
+                place: refusal.place,
+                arcs: 0,
+                members: 0,
+                note: 0,
+            },
+        }
     }
 }
 
@@ -57,7 +56,7 @@ pub extern "C" fn zilqodur_read_job(
         ≡ job_lists bytes.now
         (lent parents.old costs.old caps.old proposals.old) }
 {
-    encode(job::read(bytes, parents, costs, caps, proposals))
+    ZilqodurJob::from(job::read(bytes, parents, costs, caps, proposals))
 }
 
 #[unsafe(no_mangle)]
@@ -81,5 +80,5 @@ pub extern "C" fn zilqodur_read_job2(
         (lent2 parents.old costs.old marks.old caps.old
         proposals.old floors.old) }
 {
-    encode(job2::read(bytes, parents, costs, marks, caps, proposals, floors))
+    ZilqodurJob::from(job2::read(bytes, parents, costs, marks, caps, proposals, floors))
 }

@@ -1,34 +1,37 @@
 // The job writer, and the conversions between the versions.
 ghost use Rattle.std.specs.Prelude.{◌≡◌};
 ghost use Rattle.job_bytes.specs.JobBytes.{contents};
-ghost use Rattle.job.specs.Writer.{length_answer, write_answer, write_output, job_length_of};
+ghost use Rattle.job.specs.Writer.{length_answer, write_answer, write_output};
+ghost use Rattle.answer_forms.specs.Checked.{answer_of};
 ghost use Rattle.job2.specs.Converter.{to2_answer, to2_output, to1_answer, to1_output};
 ghost use Rattle.capi.specs.Structs.{encode_job_length, decode_job_length};
 
-use job::JobLength;
+use engine::Refusal;
 
 #[repr(C)]
-#[derive(Clone, Copy)]
+#[derive(Clone, Copy, Debug, PartialEq, Eq)]
 pub struct ZilqodurJobLength {
     pub refusal: u32,
     pub place: usize,
     pub length: usize,
 }
 
-fn encode(found: JobLength) -> ZilqodurJobLength
-    ensures { result ≡ encode_job_length (job_length_of found) }
-{
-    match found {
-        JobLength::Length(length) => ZilqodurJobLength {
-            refusal: 0,
-            place: 0,
-            length,
-        },
-        JobLength::Refused(r) => ZilqodurJobLength {
-            refusal: r.number,
-            place: r.place,
-            length: 0,
-        },
+impl From<Result<usize, Refusal>> for ZilqodurJobLength {
+    ghost from_gives = { λ found s. s ≡ encode_job_length (answer_of found) };
+
+    fn from(found: Result<usize, Refusal>) -> Self {
+        match found {
+            Ok(length) => ZilqodurJobLength {
+                refusal: 0,
+                place: 0,
+                length,
+            },
+            Err(refusal) => ZilqodurJobLength {
+                refusal: refusal.number(),
+                place: refusal.place,
+                length: 0,
+            },
+        }
     }
 }
 
@@ -45,7 +48,7 @@ pub extern "C" fn zilqodur_job_length(
         proposals.now) }
     ensures value { result ≡ encode_job_length (decode_job_length result) }
 {
-    encode(job::job_length(note, parents, costs, caps, proposals))
+    ZilqodurJobLength::from(job::job_length(note, parents, costs, caps, proposals))
 }
 
 #[unsafe(no_mangle)]
@@ -65,7 +68,7 @@ pub extern "C" fn zilqodur_write_job(
         ≡ write_output (contents note.now parents.now costs.now caps.now
         proposals.now) out.old }
 {
-    encode(job::write_job(note, parents, costs, caps, proposals, out))
+    ZilqodurJobLength::from(job::write_job(note, parents, costs, caps, proposals, out))
 }
 
 #[unsafe(no_mangle)]
@@ -74,7 +77,7 @@ pub extern "C" fn zilqodur_job_to_2(bytes: &[u8], out: &mut [u8]) -> ZilqodurJob
     ensures value { result ≡ encode_job_length (decode_job_length result) }
     ensures out_after { out.new ≡ to2_output bytes.now out.old }
 {
-    encode(job2::job_to_2(bytes, out))
+    ZilqodurJobLength::from(job2::job_to_2(bytes, out))
 }
 
 #[unsafe(no_mangle)]
@@ -83,5 +86,5 @@ pub extern "C" fn zilqodur_job_to_1(bytes: &[u8], out: &mut [u8]) -> ZilqodurJob
     ensures value { result ≡ encode_job_length (decode_job_length result) }
     ensures out_after { out.new ≡ to1_output bytes.now out.old }
 {
-    encode(job2::job_to_1(bytes, out))
+    ZilqodurJobLength::from(job2::job_to_1(bytes, out))
 }

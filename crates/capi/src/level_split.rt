@@ -5,10 +5,10 @@ ghost use Rattle.answers.specs.Level.{level_answer, level_list};
 ghost use Rattle.engine.specs.Outcomes.{level_of};
 ghost use Rattle.capi.specs.Structs.{encode_level, decode_level};
 
-use engine::LevelSplit;
+use engine::LevelRefusal;
 
 #[repr(C)]
-#[derive(Clone, Copy)]
+#[derive(Clone, Copy, Debug, PartialEq, Eq)]
 pub struct ZilqodurLevel {
     pub refusal: u32,
     pub place: usize,
@@ -16,26 +16,24 @@ pub struct ZilqodurLevel {
     pub members: usize,
 }
 
-fn encode(found: LevelSplit) -> ZilqodurLevel
-    ensures { result ≡ encode_level (level_of found) }
-{
-    match found {
-        LevelSplit::Split(members) => ZilqodurLevel {
-            refusal: 0,
-            place: 0,
-            shortfall: 0,
-            members,
-        },
-        LevelSplit::Refused {
-            number,
-            place,
-            shortfall,
-        } => ZilqodurLevel {
-            refusal: number,
-            place,
-            shortfall,
-            members: 0,
-        },
+impl From<Result<usize, LevelRefusal>> for ZilqodurLevel {
+    ghost from_gives = { λ found s. s ≡ encode_level (level_of found) };
+
+    fn from(found: Result<usize, LevelRefusal>) -> Self {
+        match found {
+            Ok(members) => ZilqodurLevel {
+                refusal: 0,
+                place: 0,
+                shortfall: 0,
+                members,
+            },
+            Err(found) => ZilqodurLevel {
+                refusal: found.refusal.number(),
+                place: found.refusal.place,
+                shortfall: found.shortfall,
+                members: 0,
+            },
+        }
     }
 }
 
@@ -56,5 +54,5 @@ pub extern "C" fn zilqodur_split_level(
         ≡ level_list (tree_of parents.now costs.now marks.now)
         caps.now floors.now out.old }
 {
-    encode(engine::split_level(parents, costs, marks, caps, floors, out))
+    ZilqodurLevel::from(engine::split_level(parents, costs, marks, caps, floors, out))
 }

@@ -5,10 +5,10 @@ ghost use Rattle.answers.specs.Margin.{margin_answer, margin_list};
 ghost use Rattle.engine.specs.Outcomes.{margin_of};
 ghost use Rattle.capi.specs.Structs.{encode_margin, decode_margin};
 
-use engine::MarginSplit;
+use engine::{MarginSplit, Refusal};
 
 #[repr(C)]
-#[derive(Clone, Copy)]
+#[derive(Clone, Copy, Debug, PartialEq, Eq)]
 pub struct ZilqodurMargin {
     pub refusal: u32,
     pub place: usize,
@@ -16,22 +16,24 @@ pub struct ZilqodurMargin {
     pub users: usize,
 }
 
-fn encode(found: MarginSplit) -> ZilqodurMargin
-    ensures { result ≡ encode_margin (margin_of found) }
-{
-    match found {
-        MarginSplit::Split { margin, users } => ZilqodurMargin {
-            refusal: 0,
-            place: 0,
-            margin,
-            users,
-        },
-        MarginSplit::Refused(r) => ZilqodurMargin {
-            refusal: r.number,
-            place: r.place,
-            margin: 0,
-            users: 0,
-        },
+impl From<Result<MarginSplit, Refusal>> for ZilqodurMargin {
+    ghost from_gives = { λ found s. s ≡ encode_margin (margin_of found) };
+
+    fn from(found: Result<MarginSplit, Refusal>) -> Self {
+        match found {
+            Ok(split) => ZilqodurMargin {
+                refusal: 0,
+                place: 0,
+                margin: split.margin,
+                users: split.users,
+            },
+            Err(refusal) => ZilqodurMargin {
+                refusal: refusal.number(),
+                place: refusal.place,
+                margin: 0,
+                users: 0,
+            },
+        }
     }
 }
 
@@ -51,5 +53,5 @@ pub extern "C" fn zilqodur_split_margin(
         ≡ margin_list (tree_of parents.now costs.now marks.now) arc
         out.old }
 {
-    encode(engine::split_margin(parents, costs, marks, arc, out))
+    ZilqodurMargin::from(engine::split_margin(parents, costs, marks, arc, out))
 }

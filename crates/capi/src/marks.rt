@@ -3,7 +3,7 @@ ghost use Rattle.std.specs.Prelude.{◌≡◌};
 ghost use Rattle.answers.specs.DeadEnds.{dead_ends_answer, dead_ends_list};
 ghost use Rattle.capi.specs.Structs.{encode_members, decode_members};
 
-use crate::members::{ZilqodurMembers, encode};
+use crate::members::ZilqodurMembers;
 
 #[unsafe(no_mangle)]
 pub extern "C" fn zilqodur_mark_dead_ends(
@@ -17,5 +17,5 @@ pub extern "C" fn zilqodur_mark_dead_ends(
     ensures out_after { out.new
         ≡ dead_ends_list parents.now costs.now out.old }
 {
-    encode(engine::mark_dead_ends(parents, costs, out))
+    ZilqodurMembers::from(engine::mark_dead_ends(parents, costs, out))
 }

@@ -2,33 +2,35 @@
 ghost use Rattle.std.specs.Prelude.{◌≡◌};
 ghost use Rattle.game.specs.Tree.{tree_of};
 ghost use Rattle.answers.specs.Members.{member_count_answer, members_answer, members_list};
-ghost use Rattle.engine.specs.Outcomes.{member_count_of};
+ghost use Rattle.answer_forms.specs.Checked.{answer_of};
 ghost use Rattle.capi.specs.Structs.{encode_members, decode_members};
 
-use engine::MemberCount;
+use engine::Refusal;
 
 #[repr(C)]
-#[derive(Clone, Copy)]
+#[derive(Clone, Copy, Debug, PartialEq, Eq)]
 pub struct ZilqodurMembers {
     pub refusal: u32,
     pub place: usize,
     pub members: usize,
 }
 
-pub fn encode(found: MemberCount) -> ZilqodurMembers
-    ensures { result ≡ encode_members (member_count_of found) }
-{
-    match found {
-        MemberCount::Members(members) => ZilqodurMembers {
-            refusal: 0,
-            place: 0,
-            members,
-        },
-        MemberCount::Refused(r) => ZilqodurMembers {
-            refusal: r.number,
-            place: r.place,
-            members: 0,
-        },
+impl From<Result<usize, Refusal>> for ZilqodurMembers {
+    ghost from_gives = { λ found s. s ≡ encode_members (answer_of found) };
+
+    fn from(found: Result<usize, Refusal>) -> Self {
+        match found {
+            Ok(members) => ZilqodurMembers {
+                refusal: 0,
+                place: 0,
+                members,
+            },
+            Err(refusal) => ZilqodurMembers {
+                refusal: refusal.number(),
+                place: refusal.place,
+                members: 0,
+            },
+        }
     }
 }
 
@@ -42,7 +44,7 @@ pub extern "C" fn zilqodur_count_members(
         ≡ member_count_answer (tree_of parents.now costs.now marks.now) }
     ensures value { result ≡ encode_members (decode_members result) }
 {
-    encode(engine::count_members(parents, costs, marks))
+    ZilqodurMembers::from(engine::count_members(parents, costs, marks))
 }
 
 #[unsafe(no_mangle)]
@@ -58,5 +60,5 @@ pub extern "C" fn zilqodur_list_members(
     ensures out_after { out.new
         ≡ members_list (tree_of parents.now costs.now marks.now) out.old }
 {
-    encode(engine::list_members(parents, costs, marks, out))
+    ZilqodurMembers::from(engine::list_members(parents, costs, marks, out))
 }

@@ -5,10 +5,10 @@ ghost use Rattle.answers.specs.Needs.{needs_answer, needs_list};
 ghost use Rattle.engine.specs.Outcomes.{needs_of};
 ghost use Rattle.capi.specs.Structs.{encode_needs, decode_needs};
 
-use engine::NeedsFound;
+use engine::{NeedsFound, Refusal};
 
 #[repr(C)]
-#[derive(Clone, Copy)]
+#[derive(Clone, Copy, Debug, PartialEq, Eq)]
 pub struct ZilqodurNeeds {
     pub refusal: u32,
     pub place: usize,
@@ -16,22 +16,24 @@ pub struct ZilqodurNeeds {
     pub members: usize,
 }
 
-fn encode(found: NeedsFound) -> ZilqodurNeeds
-    ensures { result ≡ encode_needs (needs_of found) }
-{
-    match found {
-        NeedsFound::Needs { whole, members } => ZilqodurNeeds {
-            refusal: 0,
-            place: 0,
-            whole,
-            members,
-        },
-        NeedsFound::Refused(r) => ZilqodurNeeds {
-            refusal: r.number,
-            place: r.place,
-            whole: 0,
-            members: 0,
-        },
+impl From<Result<NeedsFound, Refusal>> for ZilqodurNeeds {
+    ghost from_gives = { λ found s. s ≡ encode_needs (needs_of found) };
+
+    fn from(found: Result<NeedsFound, Refusal>) -> Self {
+        match found {
+            Ok(needs) => ZilqodurNeeds {
+                refusal: 0,
+                place: 0,
+                whole: needs.whole,
+                members: needs.members,
+            },
+            Err(refusal) => ZilqodurNeeds {
+                refusal: refusal.number(),
+                place: refusal.place,
+                whole: 0,
+                members: 0,
+            },
+        }
     }
 }
 
@@ -48,5 +50,5 @@ pub extern "C" fn zilqodur_list_needs(
     ensures out_after { out.new
         ≡ needs_list (tree_of parents.now costs.now marks.now) out.old }
 {
-    encode(engine::list_needs(parents, costs, marks, out))
+    ZilqodurNeeds::from(engine::list_needs(parents, costs, marks, out))
 }

@@ -4,36 +4,38 @@ ghost use Rattle.answers.specs.ParentLists.{step_answer, step_list};
 ghost use Rattle.engine.specs.Outcomes.{step_of};
 ghost use Rattle.capi.specs.Structs.{encode_step, decode_step, VerdictUnlessRefused};
 
-use engine::Stepped;
+use engine::{Refusal, Stepped};
 
 // The verdict is 0 in a refusal, 1 where the list is now the next one, 2 where it was the last one and has stayed.
 #[repr(C)]
-#[derive(Clone, Copy)]
+#[derive(Clone, Copy, Debug, PartialEq, Eq)]
 pub struct ZilqodurStep {
     pub refusal: u32,
     pub place: usize,
     pub verdict: u32,
 }
 
-fn encode(found: Stepped) -> ZilqodurStep
-    ensures { result ≡ encode_step (step_of found) }
-{
-    match found {
-        Stepped::Next => ZilqodurStep {
-            refusal: 0,
-            place: 0,
-            verdict: 1,
-        },
-        Stepped::End => ZilqodurStep {
-            refusal: 0,
-            place: 0,
-            verdict: 2,
-        },
-        Stepped::Refused(r) => ZilqodurStep {
-            refusal: r.number,
-            place: r.place,
-            verdict: 0,
-        },
+impl From<Result<Stepped, Refusal>> for ZilqodurStep {
+    ghost from_gives = { λ found s. s ≡ encode_step (step_of found) };
+
+    fn from(found: Result<Stepped, Refusal>) -> Self {
+        match found {
+            Ok(Stepped::Next) => ZilqodurStep {
+                refusal: 0,
+                place: 0,
+                verdict: 1,
+            },
+            Ok(Stepped::End) => ZilqodurStep {
+                refusal: 0,
+                place: 0,
+                verdict: 2,
+            },
+            Err(refusal) => ZilqodurStep {
+                refusal: refusal.number(),
+                place: refusal.place,
+                verdict: 0,
+            },
+        }
     }
 }
 
@@ -44,5 +46,5 @@ pub extern "C" fn zilqodur_next_parents(parents: &mut [u16]) -> ZilqodurStep
     ensures verdict_unless_refused { VerdictUnlessRefused result.verdict result.refusal }
     ensures parents_after { parents.new ≡ step_list parents.old }
 {
-    encode(engine::next_parents(parents))
+    ZilqodurStep::from(engine::next_parents(parents))
 }

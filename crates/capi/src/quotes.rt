@@ -5,19 +5,19 @@ ghost use Rattle.events.specs.Outcomes.{state_of, change_of, quote_of, quote_giv
 ghost use Rattle.capi.specs.Structs.{event_by, encode_event, encode_quote, quote_by, encode_asked, decode_asked};
 ghost use Rattle.capi.specs.Structs.{encode_state, decode_state};
 
-use crate::states::{ZilqodurEvent, ZilqodurStateAnswer, encode_state, event_by};
-use events::{Asked, Change, Event, Quote, QuoteGiven, State};
+use crate::states::{ZilqodurEvent, ZilqodurStateAnswer};
+use events::{Asked, Change, Event, Quote, State};
 use limits::MOST_ARCS;
 
 #[repr(C)]
-#[derive(Clone, Copy)]
+#[derive(Clone, Copy, Debug, PartialEq, Eq)]
 pub struct ZilqodurQuote {
     pub event: ZilqodurEvent,
     pub committed: u32,
 }
 
 #[repr(C)]
-#[derive(Clone, Copy)]
+#[derive(Clone, Copy, Debug, PartialEq, Eq)]
 pub struct ZilqodurQuoteAnswer {
     pub refusal: u32,
     pub place: usize,
@@ -48,43 +48,56 @@ fn encode_event(vertex: usize, change: Change) -> ZilqodurEvent
     }
 }
 
-fn encode_quote(quote: Quote) -> ZilqodurQuote
-    ensures { result ≡ encode_quote (quote_of quote) }
-{
-    let event = quote.event;
-    let change = event.change;
-    let number = quote.committed;
-    ZilqodurQuote {
-        event: encode_event(event.vertex, change),
-        committed: number,
+impl From<Quote> for ZilqodurQuote {
+    ghost from_gives = { λ quote s. s ≡ encode_quote (quote_of quote) };
+
+    fn from(quote: Quote) -> Self {
+        ZilqodurQuote {
+            event: encode_event(quote.event.vertex, quote.event.change),
+            committed: quote.committed,
+        }
     }
 }
 
-fn encode_asked(given: QuoteGiven, shares: [u64; MOST_ARCS]) -> ZilqodurQuoteAnswer
-    ensures { result ≡ encode_asked (quote_given_of given) shares }
-{
-    match given {
-        QuoteGiven::Quoted { members, quote } => ZilqodurQuoteAnswer {
-            refusal: 0,
-            place: 0,
-            members,
-            quote: encode_quote(quote),
-            shares,
-        },
-        QuoteGiven::Refused(r) => ZilqodurQuoteAnswer {
-            refusal: r.number,
-            place: r.place,
-            members: 0,
-            quote: ZilqodurQuote {
-                event: ZilqodurEvent {
-                    vertex: 0,
-                    kind: 0,
-                    amount: 0,
-                },
-                committed: 0,
+impl From<ZilqodurQuote> for Quote {
+    ghost from_gives = { λ told quote. quote_of quote ≡ quote_by told };
+
+    fn from(told: ZilqodurQuote) -> Self {
+        Quote {
+            event: Event::from(told.event),
+            committed: told.committed,
+        }
+    }
+}
+
+impl From<Asked> for ZilqodurQuoteAnswer {
+    ghost from_gives = { λ asked s. s ≡ encode_asked (quote_given_of asked.answer) asked.shares };
+
+    fn from(asked: Asked) -> Self {
+        let Asked { answer, shares } = asked;
+        match answer {
+            Ok(quoted) => ZilqodurQuoteAnswer {
+                refusal: 0,
+                place: 0,
+                members: quoted.members,
+                quote: ZilqodurQuote::from(quoted.quote),
+                shares,
             },
-            shares,
-        },
+            Err(refusal) => ZilqodurQuoteAnswer {
+                refusal: refusal.number(),
+                place: refusal.place,
+                members: 0,
+                quote: ZilqodurQuote {
+                    event: ZilqodurEvent {
+                        vertex: 0,
+                        kind: 0,
+                        amount: 0,
+                    },
+                    committed: 0,
+                },
+                shares,
+            },
+        }
     }
 }
 
@@ -94,10 +107,7 @@ pub extern "C" fn zilqodur_ask(state: State, event: ZilqodurEvent) -> ZilqodurQu
     ensures value { result ≡ encode_asked (decode_asked result) result.shares }
     ensures shares_value { result.shares ≡ asked_shares (state_of state) (event_by event) }
 {
-    let asked = events::ask(state, event_by(event));
-    let given = asked.answer;
-    let shares = asked.shares;
-    encode_asked(given, shares)
+    ZilqodurQuoteAnswer::from(events::ask(state, Event::from(event)))
 }
 
 #[unsafe(no_mangle)]
@@ -106,13 +116,5 @@ pub extern "C" fn zilqodur_commit(state: State, quote: ZilqodurQuote) -> Zilqodu
     ensures value { result ≡ encode_state (decode_state result) result.state }
     ensures state_value { state_of result.state ≡ committed_state (state_of state) (quote_by quote) }
 {
-    let asked = quote.event;
-    let event = event_by(asked);
-    encode_state(events::commit(
-        state,
-        Quote {
-            event,
-            committed: quote.committed,
-        },
-    ))
+    ZilqodurStateAnswer::from(events::commit(state, Quote::from(quote)))
 }

@@ -7,7 +7,7 @@ ghost use Rattle.capi.specs.Structs.{encode_report};
 use report_text::ROOM;
 
 #[repr(C)]
-#[derive(Clone, Copy)]
+#[derive(Clone, Copy, Debug, PartialEq, Eq)]
 pub struct ZilqodurReport {
     pub refusal: u32,
     pub place: usize,

@@ -3,16 +3,15 @@ ghost use Rattle.std.specs.Prelude.{◌≡◌};
 ghost use Rattle.game.specs.Tree.{tree_of};
 ghost use Rattle.answers.specs.Members.{member_count_answer};
 ghost use Rattle.answers.specs.States.{made_state};
-ghost use Rattle.engine.specs.Outcomes.{member_count_of};
+ghost use Rattle.answer_forms.specs.Checked.{answer_of};
 ghost use Rattle.events.specs.Outcomes.{state_of, change_of, event_of};
 ghost use Rattle.capi.specs.Structs.{encode_state, decode_state, change_by, event_by};
 
-use crate::members::encode;
 use events::{Change, Event, State, StateAnswer};
 
 // `kind` is 0 for arrive and 1 for leave; every other number is a new cost, which alone looks at `amount`.
 #[repr(C)]
-#[derive(Clone, Copy)]
+#[derive(Clone, Copy, Debug, PartialEq, Eq)]
 pub struct ZilqodurEvent {
     pub vertex: usize,
     pub kind: u32,
@@ -20,7 +19,7 @@ pub struct ZilqodurEvent {
 }
 
 #[repr(C)]
-#[derive(Clone, Copy)]
+#[derive(Clone, Copy, Debug, PartialEq, Eq)]
 pub struct ZilqodurStateAnswer {
     pub refusal: u32,
     pub place: usize,
@@ -31,35 +30,42 @@ pub struct ZilqodurStateAnswer {
 fn change_by(kind: u32, amount: u32) -> Change
     ensures { change_of result ≡ change_by kind amount }
 {
-    if kind == 0 {
-        return Change::Arrive;
-    }
-    if kind == 1 {
-        return Change::Leave;
-    }
-    Change::NewCost(amount)
-}
-
-pub fn event_by(event: ZilqodurEvent) -> Event
-    ensures { event_of result ≡ event_by event }
-{
-    Event {
-        vertex: event.vertex,
-        change: change_by(event.kind, event.amount),
+    match kind {
+        0 => Change::Arrive,
+        1 => Change::Leave,
+        _ => Change::NewCost(amount),
     }
 }
 
-pub fn encode_state(found: StateAnswer) -> ZilqodurStateAnswer
-    ensures { result ≡ encode_state (member_count_of found.answer) found.state }
-{
-    let counted = found.answer;
-    let state = found.state;
-    let answer = encode(counted);
-    ZilqodurStateAnswer {
-        refusal: answer.refusal,
-        place: answer.place,
-        members: answer.members,
-        state,
+impl From<ZilqodurEvent> for Event {
+    ghost from_gives = { λ told event. event_of event ≡ event_by told };
+
+    fn from(told: ZilqodurEvent) -> Self {
+        Event {
+            vertex: told.vertex,
+            change: change_by(told.kind, told.amount),
+        }
+    }
+}
+
+impl From<StateAnswer> for ZilqodurStateAnswer {
+    ghost from_gives = { λ found s. s ≡ encode_state (answer_of found.answer) found.state };
+
+    fn from(found: StateAnswer) -> Self {
+        match found.answer {
+            Ok(members) => ZilqodurStateAnswer {
+                refusal: 0,
+                place: 0,
+                members,
+                state: found.state,
+            },
+            Err(refusal) => ZilqodurStateAnswer {
+                refusal: refusal.number(),
+                place: refusal.place,
+                members: 0,
+                state: found.state,
+            },
+        }
     }
 }
 
@@ -75,5 +81,5 @@ pub extern "C" fn zilqodur_make_state(
     ensures state_value { state_of result.state
         ≡ made_state (tree_of parents.now costs.now marks.now) 0 }
 {
-    encode_state(events::make_state(parents, costs, marks))
+    ZilqodurStateAnswer::from(events::make_state(parents, costs, marks))
 }

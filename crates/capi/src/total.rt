@@ -3,14 +3,14 @@ ghost use Rattle.std.specs.Prelude.{◌≡◌, cond};
 ghost use Rattle.game.specs.Tree.{tree_of};
 ghost use Rattle.answers.specs.Audit.{total_answer};
 ghost use Rattle.numbers.specs.Signed.{is_zero};
-ghost use Rattle.engine.specs.Outcomes.{total_of};
+ghost use Rattle.answer_forms.specs.Checked.{answer_of};
 ghost use Rattle.capi.specs.Structs.{encode_total, decode_total, VerdictUnlessRefused};
 
-use engine::TotalFound;
+use engine::Refusal;
 
 // The verdict is 0 in a refusal, 1 where the proposal adds up to the whole cost, 2 where it is off.
 #[repr(C)]
-#[derive(Clone, Copy)]
+#[derive(Clone, Copy, Debug, PartialEq, Eq)]
 pub struct ZilqodurTotal {
     pub refusal: u32,
     pub place: usize,
@@ -21,25 +21,27 @@ pub struct ZilqodurTotal {
 fn verdict_on(difference: i64) -> u32
     ensures { result ≡ cond (is_zero difference) 1 2 }
 {
-    if numbers::is_zero(difference) { 1 } else { 2 }
+    if difference == 0 { 1 } else { 2 }
 }
 
-fn encode(found: TotalFound) -> ZilqodurTotal
-    ensures { result ≡ encode_total (total_of «found») }
-{
-    match found {
-        TotalFound::Difference(difference) => ZilqodurTotal {
-            refusal: 0,
-            place: 0,
-            verdict: verdict_on(difference),
-            difference,
-        },
-        TotalFound::Refused(r) => ZilqodurTotal {
-            refusal: r.number,
-            place: r.place,
-            verdict: 0,
-            difference: 0,
-        },
+impl From<Result<i64, Refusal>> for ZilqodurTotal {
+    ghost from_gives = { λ found s. s ≡ encode_total (answer_of found) };
+
+    fn from(found: Result<i64, Refusal>) -> Self {
+        match found {
+            Ok(difference) => ZilqodurTotal {
+                refusal: 0,
+                place: 0,
+                verdict: verdict_on(difference),
+                difference,
+            },
+            Err(refusal) => ZilqodurTotal {
+                refusal: refusal.number(),
+                place: refusal.place,
+                verdict: 0,
+                difference: 0,
+            },
+        }
     }
 }
 
@@ -56,5 +58,5 @@ pub extern "C" fn zilqodur_check_total(
     ensures value { result ≡ encode_total (decode_total result) }
     ensures verdict_unless_refused { VerdictUnlessRefused result.verdict result.refusal }
 {
-    encode(engine::check_total(parents, costs, marks, proposal))
+    ZilqodurTotal::from(engine::check_total(parents, costs, marks, proposal))
 }

@@ -3,43 +3,38 @@ ghost use Rattle.std.specs.Prelude.{◌≡◌, ◌||◌, eqb, ltb, leb};
 ghost use Rattle.limits.specs.Limits.{most_cost};
 ghost use Rattle.answer_forms.specs.Answer.{fault, ◌then◌};
 ghost use Rattle.answer_forms.specs.Checked.{check_of};
+ghost use Rattle.answer_forms.specs.Reasons.{number_of};
 
-use answer_forms::{Checked, refusals, refuse};
+use answer_forms::{Reason, Refusal};
 use limits::MOST_COST;
 
-// The number where there is no arc, or more than so many.
-pub fn check_count(arcs: usize, most: usize, number: u32) -> Checked
-    ensures { check_of result ≡ fault (eqb arcs 0 || ltb most arcs) number 0 }
+// Refused where there is no arc, or more than so many.
+pub fn check_count(arcs: usize, most: usize, reason: Reason) -> Result<(), Refusal>
+    ensures { check_of result ≡ fault (eqb arcs 0 || ltb most arcs) (number_of reason) 0 }
 {
-    if arcs == 0 {
-        return refuse(number, 0);
+    if arcs == 0 || most < arcs {
+        return Err(reason.at(0));
     }
-    if most < arcs {
-        return refuse(number, 0);
-    }
-    Checked::Accepted
+    Ok(())
 }
 
 // 3 at arc k.
-pub fn check_parent(k: usize, parent: u16) -> Checked
+pub fn check_parent(k: usize, parent: u16) -> Result<(), Refusal>
     ensures { check_of result ≡ fault (leb k parent) 3 k }
 {
     if k <= parent as usize {
-        return refuse(refusals::PARENT, k);
+        return Err(Reason::Parent.at(k));
     }
-    Checked::Accepted
+    Ok(())
 }
 
 // 3 and 4 at arc k.
-pub fn check_arc(k: usize, parent: u16, cost: u32) -> Checked
+pub fn check_arc(k: usize, parent: u16, cost: u32) -> Result<(), Refusal>
     ensures { check_of result ≡ (fault (leb k parent) 3 k then fault (ltb most_cost cost) 4 k) }
 {
-    let below = check_parent(k, parent);
-    let Checked::Accepted = below else {
-        return below;
-    };
+    check_parent(k, parent)?;
     if MOST_COST < cost {
-        return refuse(refusals::COST, k);
+        return Err(Reason::Cost.at(k));
     }
-    Checked::Accepted
+    Ok(())
 }

@@ -5,39 +5,34 @@ ghost use Rattle.answers.specs.Checks.{range_check};
 ghost use Rattle.answers.specs.Level.{outside_cap, caps_check};
 ghost use Rattle.answer_forms.specs.Checked.{check_of};
 
-use answer_forms::{Checked, refusals, refuse};
+use answer_forms::{Reason, Refusal};
 use limits::MOST_SHARE;
 
 // 7 at member j.
-fn check_cap(j: usize, cap: u64) -> Checked
+fn check_cap(j: usize, cap: u64) -> Result<(), Refusal>
     ensures { check_of result ≡ fault (outside_cap cap) 7 j }
 {
     if MOST_SHARE < cap {
-        return refuse(refusals::LIST_RANGE, j);
+        return Err(Reason::ListRange.at(j));
     }
-    Checked::Accepted
+    Ok(())
 }
 
 // 7 member by member.
-fn check_each(caps: &[u64]) -> Checked
+fn check_each(caps: &[u64]) -> Result<(), Refusal>
     ensures { check_of result ≡ range_check outside_cap 0 caps.now }
 {
-    let mut i = 0;
-    while i < caps.len() {
-        let found = check_cap(i, caps[i]);
-        let Checked::Accepted = found else {
-            return found;
-        };
-        i += 1;
+    for (j, cap) in caps.iter().enumerate() {
+        check_cap(j, *cap)?;
     }
-    Checked::Accepted
+    Ok(())
 }
 
-pub fn check_caps(members: usize, caps: &[u64]) -> Checked
+pub fn check_caps(members: usize, caps: &[u64]) -> Result<(), Refusal>
     ensures { check_of result ≡ caps_check members caps.now }
 {
     if caps.len() != members {
-        return refuse(refusals::LIST_LENGTH, 0);
+        return Err(Reason::ListLength.at(0));
     }
     check_each(caps)
 }

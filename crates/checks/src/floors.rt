@@ -6,45 +6,34 @@ ghost use Rattle.answers.specs.Level.{floors_check, limits_check};
 ghost use Rattle.answer_forms.specs.Checked.{check_of};
 
 use crate::caps::check_caps;
-use answer_forms::{Checked, refusals, refuse};
+use answer_forms::{Reason, Refusal};
 
 // 27 at member j.
-fn check_floor(j: usize, cap: u64, floor: u64) -> Checked
+fn check_floor(j: usize, cap: u64, floor: u64) -> Result<(), Refusal>
     ensures { check_of result ≡ fault (ltb cap floor) 27 j }
 {
     if cap < floor {
-        return refuse(refusals::FLOOR_ABOVE_CAP, j);
+        return Err(Reason::FloorAboveCap.at(j));
     }
-    Checked::Accepted
+    Ok(())
 }
 
 // 27 member by member.
-fn check_floors(caps: &[u64], floors: &[u64]) -> Checked
+fn check_floors(caps: &[u64], floors: &[u64]) -> Result<(), Refusal>
     requires { length floors.now ≡ length caps.now }
     ensures { check_of result
         ≡ floors_check (length caps.now) caps.now floors.now }
 {
-    let mut i = 0;
-    while i < caps.len() {
-        let found = check_floor(i, caps[i], floors[i]);
-        let Checked::Accepted = found else {
-            return found;
-        };
-        i += 1;
+    for j in 0..caps.len() {
+        check_floor(j, caps[j], floors[j])?;
     }
-    Checked::Accepted
+    Ok(())
 }
 
-pub fn check_limits(members: usize, caps: &[u64], floors: &[u64]) -> Checked
+pub fn check_limits(members: usize, caps: &[u64], floors: &[u64]) -> Result<(), Refusal>
     ensures { check_of result ≡ limits_check members caps.now floors.now }
 {
-    let upper = check_caps(members, caps);
-    let Checked::Accepted = upper else {
-        return upper;
-    };
-    let lower = check_caps(members, floors);
-    let Checked::Accepted = lower else {
-        return lower;
-    };
+    check_caps(members, caps)?;
+    check_caps(members, floors)?;
     check_floors(caps, floors)
 }

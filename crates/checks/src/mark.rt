@@ -5,42 +5,39 @@ ghost use Rattle.game.specs.Tree.{marked};
 ghost use Rattle.answer_forms.specs.Answer.{fault, ◌then◌};
 ghost use Rattle.answer_forms.specs.Checked.{check_of};
 
-use answer_forms::{Checked, refusals, refuse};
+use answer_forms::{Reason, Refusal};
 
 // 17 at vertex k.
-fn check_end(k: usize, mark: u16, has_child: bool) -> Checked
+fn check_end(k: usize, mark: u16, has_child: bool) -> Result<(), Refusal>
     ensures { check_of result ≡ fault (eqb mark 1 && has_child) 17 k }
 {
     if mark != 1 {
-        return Checked::Accepted;
+        return Ok(());
     }
     if has_child {
-        return refuse(refusals::MARK_CHILD, k);
+        return Err(Reason::MarkChild.at(k));
     }
-    Checked::Accepted
+    Ok(())
 }
 
 // 16 and 17 at vertex k.
-pub fn check_mark(k: usize, mark: u16, has_child: bool) -> Checked
+pub fn check_mark(k: usize, mark: u16, has_child: bool) -> Result<(), Refusal>
     ensures { check_of result ≡ (fault (ltb 1 mark) 16 k then fault (eqb mark 1 && has_child) 17 k) }
 {
     if 1 < mark {
-        return refuse(refusals::MARK, k);
+        return Err(Reason::Mark.at(k));
     }
     check_end(k, mark, has_child)
 }
 
 // 18.
-pub fn check_someone(marks: &[u16]) -> Checked
+pub fn check_someone(marks: &[u16]) -> Result<(), Refusal>
     ensures { check_of result
         ≡ fault (not (some (length marks.now) (marked marks.now))) 18 0 }
 {
-    let mut i = 0;
-    while i < marks.len() {
-        if marks[i] == 1 {
-            return Checked::Accepted;
-        }
-        i += 1;
+    if marks.contains(&1) {
+        Ok(())
+    } else {
+        Err(Reason::NoMark.at(0))
     }
-    refuse(refusals::NO_MARK, 0)
 }

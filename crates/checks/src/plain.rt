@@ -4,35 +4,28 @@ ghost use Rattle.answers.specs.Checks.{plain_check, one_by_one, arc_check};
 ghost use Rattle.answer_forms.specs.Checked.{check_of};
 
 use crate::arc::{check_arc, check_count};
-use answer_forms::{Checked, refusals, refuse};
+use answer_forms::{Reason, Refusal};
 use limits::MOST_ARCS;
 
 // 3 and 4 arc by arc.
-fn check_arcs(parents: &[u16], costs: &[u32]) -> Checked
+fn check_arcs(parents: &[u16], costs: &[u32]) -> Result<(), Refusal>
     requires { length parents.now ≡ length costs.now }
     ensures { check_of result
         ≡ one_by_one (arc_check parents.now costs.now) (length parents.now) }
 {
-    let mut i = 0;
-    while i < parents.len() {
-        let arc = check_arc(i + 1, parents[i], costs[i]);
-        let Checked::Accepted = arc else {
-            return arc;
-        };
-        i += 1;
+    for i in 0..parents.len() {
+        check_arc(i + 1, parents[i], costs[i])?;
     }
-    Checked::Accepted
+    Ok(())
 }
 
-pub fn check_plain(parents: &[u16], costs: &[u32]) -> Checked
+#[tactic(auto, unfolding(answers::specs::Checks::plain_check))]
+pub fn check_plain(parents: &[u16], costs: &[u32]) -> Result<(), Refusal>
     ensures { check_of result ≡ plain_check parents.now costs.now }
 {
-    let count = check_count(parents.len(), MOST_ARCS, refusals::ARC_COUNT);
-    let Checked::Accepted = count else {
-        return count;
-    };
+    check_count(parents.len(), MOST_ARCS, Reason::ArcCount)?;
     if parents.len() != costs.len() {
-        return refuse(refusals::TREE_LENGTHS, 0);
+        return Err(Reason::TreeLengths.at(0));
     }
     check_arcs(parents, costs)
 }

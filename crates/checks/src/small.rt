@@ -4,30 +4,23 @@ ghost use Rattle.answers.specs.Checks.{small_check, one_by_one, parent_check};
 ghost use Rattle.answer_forms.specs.Checked.{check_of};
 
 use crate::arc::{check_count, check_parent};
-use answer_forms::{Checked, refusals};
+use answer_forms::{Reason, Refusal};
 use limits::MOST_SMALL_ARCS;
 
 // 3 arc by arc.
-fn check_parents(parents: &[u16]) -> Checked
+fn check_parents(parents: &[u16]) -> Result<(), Refusal>
     ensures { check_of result ≡ one_by_one (parent_check parents.now) (length parents.now) }
 {
-    let mut i = 0;
-    while i < parents.len() {
-        let arc = check_parent(i + 1, parents[i]);
-        let Checked::Accepted = arc else {
-            return arc;
-        };
-        i += 1;
+    for (i, parent) in parents.iter().enumerate() {
+        check_parent(i + 1, *parent)?;
     }
-    Checked::Accepted
+    Ok(())
 }
 
-pub fn check_small(parents: &[u16]) -> Checked
+#[tactic(auto, unfolding(answers::specs::Checks::small_check))]
+pub fn check_small(parents: &[u16]) -> Result<(), Refusal>
     ensures { check_of result ≡ small_check parents.now }
 {
-    let count = check_count(parents.len(), MOST_SMALL_ARCS, refusals::SMALL_ARC_COUNT);
-    let Checked::Accepted = count else {
-        return count;
-    };
+    check_count(parents.len(), MOST_SMALL_ARCS, Reason::SmallArcCount)?;
     check_parents(parents)
 }

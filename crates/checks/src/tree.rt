@@ -8,24 +8,21 @@ ghost use Rattle.answer_forms.specs.Checked.{check_of};
 
 use crate::arc::{check_arc, check_count};
 use crate::mark::{check_mark, check_someone};
-use answer_forms::{Checked, refusals, refuse};
+use answer_forms::{Reason, Refusal};
 use limits::MOST_ARCS;
 
 // 3, 4, 16 and 17 at arc k.
-fn check_at(k: usize, parent: u16, cost: u32, mark: u16, has_child: bool) -> Checked
+fn check_at(k: usize, parent: u16, cost: u32, mark: u16, has_child: bool) -> Result<(), Refusal>
     ensures { check_of result
         ≡ ((fault (leb k parent) 3 k then fault (ltb most_cost cost) 4 k)
         then (fault (ltb 1 mark) 16 k then fault (eqb mark 1 && has_child) 17 k)) }
 {
-    let arc = check_arc(k, parent, cost);
-    let Checked::Accepted = arc else {
-        return arc;
-    };
+    check_arc(k, parent, cost)?;
     check_mark(k, mark, has_child)
 }
 
 // 3, 4, 16 and 17 arc by arc. Which vertices have a child is found out first, in one pass.
-fn check_arcs(parents: &[u16], costs: &[u32], marks: &[u16]) -> Checked
+fn check_arcs(parents: &[u16], costs: &[u32], marks: &[u16]) -> Result<(), Refusal>
     requires parents_len_bound { length parents.now ≤ most_arcs }
     requires parents_len { length parents.now ≡ length costs.now }
     requires parents_len_2 { length parents.now ≡ length marks.now }
@@ -35,34 +32,21 @@ fn check_arcs(parents: &[u16], costs: &[u32], marks: &[u16]) -> Checked
         (length parents.now) }
 {
     let has_child = dead_ends::find_children(parents);
-    let mut i = 0;
-    while i < parents.len() {
-        let arc = check_at(i + 1, parents[i], costs[i], marks[i], has_child[i + 1]);
-        let Checked::Accepted = arc else {
-            return arc;
-        };
-        i += 1;
+    for i in 0..parents.len() {
+        check_at(i + 1, parents[i], costs[i], marks[i], has_child[i + 1])?;
     }
-    Checked::Accepted
+    Ok(())
 }
 
-pub fn check_tree(parents: &[u16], costs: &[u32], marks: &[u16]) -> Checked
+#[tactic(auto, unfolding(answers::specs::Checks::tree_check))]
+pub fn check_tree(parents: &[u16], costs: &[u32], marks: &[u16]) -> Result<(), Refusal>
     ensures { check_of result
         ≡ tree_check (tree_of parents.now costs.now marks.now) }
 {
-    let count = check_count(parents.len(), MOST_ARCS, refusals::ARC_COUNT);
-    let Checked::Accepted = count else {
-        return count;
-    };
-    if parents.len() != costs.len() {
-        return refuse(refusals::TREE_LENGTHS, 0);
+    check_count(parents.len(), MOST_ARCS, Reason::ArcCount)?;
+    if parents.len() != costs.len() || parents.len() != marks.len() {
+        return Err(Reason::TreeLengths.at(0));
     }
-    if parents.len() != marks.len() {
-        return refuse(refusals::TREE_LENGTHS, 0);
-    }
-    let arcs = check_arcs(parents, costs, marks);
-    let Checked::Accepted = arcs else {
-        return arcs;
-    };
+    check_arcs(parents, costs, marks)?;
     check_someone(marks)
 }

@@ -17,6 +17,14 @@ use Rattle.answers.proofs.Classed.{few_classes, all_costs, summed_accepted}
 use Rattle.tree.proofs.MembersListed.{written_count}
 use Rattle.tree.proofs.TreeAccepted.{accepted_marked}
 
+-- class c's part lies within the costs, and its shares within the list for them
+pub record Fits (w : Classed) (vs out : List ℕ) (c : ℕ) : Type 0 where
+  pub few : c < most_classes
+  pub in_costs : c * length w.parents + length w.parents ≤ length w.costs
+  pub in_out : c * length vs + length vs ≤ length out
+  pub few_costs : length w.costs ≤ 4092
+  pub few_shares : length out ≤ 4092
+
 module _ (w : Classed) (ok : classed_check w ≡ accepted) (vs out : List ℕ)
     (are : vs ≡ members_to (marked w.marks) (length w.marks))
     (long : length out ≡ w.classes * member_count (network_of w.parents [] w.marks)) where
@@ -30,14 +38,7 @@ module _ (w : Classed) (ok : classed_check w ≡ accepted) (vs out : List ℕ)
   pub all_shares : length out ≡ w.classes * length vs
   all_shares = long ∙ ap (λ (k : ℕ). w.classes * k) (sym one_a_member)
 
-  pub record Fits (c : ℕ) : Type 0 where
-    pub few : c < most_classes
-    pub in_costs : c * length w.parents + length w.parents ≤ length w.costs
-    pub in_out : c * length vs + length vs ≤ length out
-    pub few_costs : length w.costs ≤ 4092
-    pub few_shares : length out ≤ 4092
-
-  pub fits : (c : ℕ) → c < w.classes → Fits c
+  pub fits : (c : ℕ) → c < w.classes → Fits w vs out c
   fits c h =
       let most = (few_classes w ok).1 in
       let costs = all_costs w ok in

@@ -2,3 +2,4 @@ mod Cut
 mod Totals
 mod TakenPart
 mod Fits
+mod OneClass

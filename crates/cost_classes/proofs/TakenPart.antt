@@ -5,7 +5,7 @@ use mathlib.Core.List.{List, ◌++◌}
 use native.Mathlib.Nat.{suc-mul}
 use native.Mathlib.Numerals.{add-one}
 use native.Mathlib.Omega.{arith}
-use lib.ListN.{length, take, drop, length-append, length-drop}
+use lib.ListN.{length, take, drop}
 use lib.Seq.{length-take-le, take_at, take-append-add}
 use Rattle.answers.specs.Classes.{part, joined}
 
@@ -31,19 +31,3 @@ module _ (size c : ℕ) where
 
       places : suc c * size ≡ length front + size
       places = omega (arith, suc-mul c size, length-take-le (c * size) out within)
-
-  -- the list with a class's part in its place is as long as before
-  pub as_long : (out new : List ℕ) → c * size + size ≤ length out → length new ≡ size
-      → length (take (c * size) out ++ (new ++ drop (c * size + size - c * size) (drop (c * size) out))) ≡ length out
-  as_long out new within long =
-      let a = c * size in
-      let k = a + size - a in
-      omega (
-        arith,
-        length-append (take a out) (new ++ drop k (drop a out)),
-        length-append new (drop k (drop a out)),
-        length-take-le a out (omega arith),
-        length-drop k (drop a out),
-        length-drop a out,
-        long,
-      )

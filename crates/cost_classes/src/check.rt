@@ -4,26 +4,27 @@ ghost use Rattle.answer_forms.specs.Checked.{check_of};
 ghost use Rattle.answers.specs.Classes.{classed_of, classed_check};
 
 use crate::sums::write_sums;
-use answer_forms::{Checked, refusals, refuse};
+use answer_forms::{Reason, Refusal};
+use checks::{check_count, check_tree};
 use limits::{MOST_ARCS, MOST_CLASSES};
 
-pub fn check_classed(parents: &[u16], costs: &[u32], marks: &[u16], classes: usize) -> Checked
+#[tactic(auto, unfolding(answers::specs::Classes::classed_check))]
+pub fn check_classed(
+    parents: &[u16],
+    costs: &[u32],
+    marks: &[u16],
+    classes: usize,
+) -> Result<(), Refusal>
     ensures { check_of result
         ≡ classed_check (classed_of parents.now costs.now marks.now classes) }
 {
-    let several = checks::check_count(classes, MOST_CLASSES, refusals::CLASS_COUNT);
-    let Checked::Accepted = several else {
-        return several;
-    };
+    check_count(classes, MOST_CLASSES, Reason::ClassCount)?;
     let m = parents.len();
-    let count = checks::check_count(m, MOST_ARCS, refusals::ARC_COUNT);
-    let Checked::Accepted = count else {
-        return count;
-    };
+    check_count(m, MOST_ARCS, Reason::ArcCount)?;
     if costs.len() != classes * m {
-        return refuse(refusals::TREE_LENGTHS, 0);
+        return Err(Reason::TreeLengths.at(0));
     }
     let mut sums = [0u32; MOST_ARCS];
     write_sums(costs, classes, &mut sums[0..m]);
-    checks::check_tree(parents, &sums[0..m], marks)
+    check_tree(parents, &sums[0..m], marks)
 }

@@ -11,7 +11,7 @@ ghost use Rattle.answers.specs.Classes.{classed_of, classed_check, joined, class
 use crate::total::total_of;
 use limits::{MOST_ARCS, MOST_CLASSES};
 
-#[derive(Clone, Copy)]
+#[derive(Debug, Clone, Copy, PartialEq, Eq)]
 pub struct ClassTotals {
     pub paid: u64,
     pub cost: u64,
@@ -65,8 +65,7 @@ pub fn write_classes(
     let m = parents.len();
     let n = vertices.len();
     let mut totals = [0u64; 8];
-    let mut c = 0;
-    while c < classes {
+    for c in 0..classes {
         let a = c * m;
         let j = c * n;
         let class = split_class(
@@ -78,7 +77,6 @@ pub fn write_classes(
         );
         totals[c] = class.paid;
         totals[MOST_CLASSES + c] = class.cost;
-        c += 1;
     }
     totals
 }

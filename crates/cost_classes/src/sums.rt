@@ -19,10 +19,8 @@ fn sum_at(costs: &[u32], m: usize, classes: usize, i: usize) -> u64
     ensures { result ≡ sum₀ classes (λ c. of_arc (part m c costs.now) (suc i)) }
 {
     let mut total: u64 = 0;
-    let mut c = 0;
-    while c < classes {
-        total += costs[c * m + i] as u64;
-        c += 1;
+    for c in 0..classes {
+        total += u64::from(costs[c * m + i]);
     }
     total
 }
@@ -37,9 +35,7 @@ pub fn write_sums(costs: &[u32], classes: usize, out: &mut [u32])
         (suc most_cost)) }
 {
     let m = out.len();
-    let mut i = 0;
-    while i < m {
-        out[i] = numbers::smaller_of(sum_at(costs, m, classes, i), TOO_DEAR) as u32;
-        i += 1;
+    for i in 0..m {
+        out[i] = sum_at(costs, m, classes, i).min(TOO_DEAR) as u32;
     }
 }

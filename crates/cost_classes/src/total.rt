@@ -7,11 +7,5 @@ pub fn total_of(shares: &[u64]) -> u64
     requires { total (λ x. x) shares.now ≤ most_whole }
     ensures { result ≡ total (λ x. x) shares.now }
 {
-    let mut sum: u64 = 0;
-    let mut j = 0;
-    while j < shares.len() {
-        sum += shares[j];
-        j += 1;
-    }
-    sum
+    shares.iter().sum()
 }

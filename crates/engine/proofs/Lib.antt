@@ -4,3 +4,4 @@ mod NamedSize
 mod ProposalAccepted
 mod Difference
 mod LevelAnswer
+mod ClassMembers

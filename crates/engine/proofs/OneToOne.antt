@@ -1,7 +1,7 @@
 -- Two answers of an entry that stand for the same value or refusal are the same: each answer can be read back.
 use Prim.Native.Nat.{ℕ}
-use lib.IntN.{ℤ}
 use mathlib.Core.Path.{◌≡◌, refl, sym, ap, ◌∙◌}
+use Rattle.std.specs.Prelude.{Result, Ok, Err, Option, Some, None}
 use Rattle.answer_forms.specs.Answer.{Answer, value, refusal, Check, accepted, refused}
 use Rattle.answers.specs.Needs.{NeedsValue}
 use Rattle.answers.specs.GroupCost.{GroupCostValue}
@@ -9,143 +9,124 @@ use Rattle.answers.specs.Audit.{Verdict, found, none}
 use Rattle.answers.specs.Level.{LevelAnswer, split, refusal as not_split}
 use Rattle.answers.specs.Margin.{MarginValue}
 use Rattle.answers.specs.ParentLists.{Step, next, end}
-use Rattle.answer_forms.specs.Checked.{check_of}
-use Rattle.answer_forms.specs.declared.Checked.{Checked}
-use Rattle.answer_forms.specs.declared.Checked.TheVariants.{Accepted, Refused as NotAccepted}
-use Rattle.engine.specs.Outcomes.{member_count_of, needs_of, group_cost_of, total_of, search_of, cap_sums_of, level_of}
-use Rattle.engine.specs.Outcomes.{margin_of, step_of}
-use Rattle.engine.specs.declared.members.MemberCount.{MemberCount}
-use Rattle.engine.specs.declared.members.MemberCount.TheVariants.{Members, Refused as NoMembers}
+use Rattle.answer_forms.specs.Checked.{check_of, answer_of}
+use Rattle.answer_forms.specs.Reasons.{number_of}
+use Rattle.answer_forms.proofs.Reasons.{reason_by, reason_is}
+use Rattle.answer_forms.specs.declared.Refusal.{Refusal}
+use Rattle.engine.specs.Outcomes.{level_of}
+use Rattle.level.specs.declared.refusal.LevelRefusal.{LevelRefusal}
+use Rattle.engine.specs.Outcomes.{needs_of, group_cost_of, search_of, margin_of, step_of}
 use Rattle.engine.specs.declared.needs.NeedsFound.{NeedsFound}
-use Rattle.engine.specs.declared.needs.NeedsFound.TheVariants.{Needs, Refused as NoNeeds}
 use Rattle.engine.specs.declared.group.GroupCost.{GroupCost}
-use Rattle.engine.specs.declared.group.GroupCost.TheVariants.{Cost, Refused as NoCost}
-use Rattle.engine.specs.declared.total.TotalFound.{TotalFound}
-use Rattle.engine.specs.declared.total.TotalFound.TheVariants.{Difference, Refused as NoDifference}
 use Rattle.engine.specs.declared.group_search.GroupFound.{GroupFound}
-use Rattle.engine.specs.declared.group_search.GroupFound.TheVariants.{Group, NoGroup, Refused as NoSearch}
-use Rattle.engine.specs.declared.cap_sums.CapSumsFound.{CapSumsFound}
-use Rattle.engine.specs.declared.cap_sums.CapSumsFound.TheVariants.{Total, Refused as NoTotal}
-use Rattle.engine.specs.declared.level_split.LevelSplit.{LevelSplit}
-use Rattle.engine.specs.declared.level_split.LevelSplit.TheVariants.{Split, Refused as NoSplit}
 use Rattle.engine.specs.declared.margin_split.MarginSplit.{MarginSplit}
-use Rattle.engine.specs.declared.margin_split.MarginSplit.TheVariants.{Split as Widest, Refused as NoMargin}
 use Rattle.engine.specs.declared.parent_step.Stepped.{Stepped}
-use Rattle.engine.specs.declared.parent_step.Stepped.TheVariants.{Next, End, Refused as NoStep}
+use Rattle.engine.specs.declared.parent_step.Stepped.TheVariants.{Next, End}
 
 read_back : {A B : Type 0} (of : A → B) (back : B → A) → ((a : A) → back (of a) ≡ a) → (a b : A) → of a ≡ of b → a ≡ b
 read_back of back is a b e = sym (is a) ∙ ap back e ∙ is b
 
-abbrev check_back : Check → Checked
-check_back accepted = Accepted
-check_back (refused number place) = NotAccepted (record { number = number; place = place })
+-- the refusal with a number and a place
+abbrev refusal_by : ℕ → ℕ → Refusal
+refusal_by number place = record { reason = reason_by number; place = place }
 
-check_is : (a : Checked) → check_back (check_of a) ≡ a
-check_is Accepted = refl
-check_is (NotAccepted r) = refl
+refusal_is : (r : Refusal) → refusal_by (number_of r.reason) r.place ≡ r
+refusal_is r = ap (λ reason. record { reason = reason; place = r.place }) (reason_is r.reason)
 
-pub check_one_to_one : (a b : Checked) → check_of a ≡ check_of b → a ≡ b
+-- a refused answer is read back, whatever the value
+error_is : {A : Type 0} (r : Refusal) → ◌≡◌ {A = Result A Refusal} (Err (refusal_by (number_of r.reason) r.place)) (Err r)
+error_is r = ap Err (refusal_is r)
+
+abbrev check_back : Check → Result Unit Refusal
+check_back accepted = Ok tt
+check_back (refused number place) = Err (refusal_by number place)
+
+check_is : (a : Result Unit Refusal) → check_back (check_of a) ≡ a
+check_is (Ok u) = refl
+check_is (Err r) = error_is r
+
+pub check_one_to_one : (a b : Result Unit Refusal) → check_of a ≡ check_of b → a ≡ b
 check_one_to_one = read_back check_of check_back check_is
 
-abbrev count_back : Answer ℕ → MemberCount
-count_back (value n) = Members n
-count_back (refusal number place) = NoMembers (record { number = number; place = place })
+module _ {A : Type 0} where
+  abbrev answer_back : Answer A → Result A Refusal
+  answer_back (value x) = Ok x
+  answer_back (refusal number place) = Err (refusal_by number place)
 
-count_is : (a : MemberCount) → count_back (member_count_of a) ≡ a
-count_is (Members n) = refl
-count_is (NoMembers r) = refl
+  answer_is : (a : Result A Refusal) → answer_back (answer_of a) ≡ a
+  answer_is (Ok x) = refl
+  answer_is (Err r) = error_is r
 
-pub member_count_one_to_one : (a b : MemberCount) → member_count_of a ≡ member_count_of b → a ≡ b
-member_count_one_to_one = read_back member_count_of count_back count_is
+  -- the numbers of members, the sums of caps and the totals among them
+  pub answer_one_to_one : (a b : Result A Refusal) → answer_of a ≡ answer_of b → a ≡ b
+  answer_one_to_one = read_back answer_of answer_back answer_is
 
-abbrev needs_back : Answer NeedsValue → NeedsFound
-needs_back (value v) = Needs v.whole v.members
-needs_back (refusal number place) = NoNeeds (record { number = number; place = place })
+abbrev needs_back : Answer NeedsValue → Result NeedsFound Refusal
+needs_back (value v) = Ok (record { whole = v.whole; members = v.members })
+needs_back (refusal number place) = Err (refusal_by number place)
 
-needs_is : (a : NeedsFound) → needs_back (needs_of a) ≡ a
-needs_is (Needs whole members) = refl
-needs_is (NoNeeds r) = refl
+needs_is : (a : Result NeedsFound Refusal) → needs_back (needs_of a) ≡ a
+needs_is (Ok n) = refl
+needs_is (Err r) = error_is r
 
-pub needs_one_to_one : (a b : NeedsFound) → needs_of a ≡ needs_of b → a ≡ b
+pub needs_one_to_one : (a b : Result NeedsFound Refusal) → needs_of a ≡ needs_of b → a ≡ b
 needs_one_to_one = read_back needs_of needs_back needs_is
 
-abbrev cost_back : Answer GroupCostValue → GroupCost
-cost_back (value v) = Cost v.size v.cost
-cost_back (refusal number place) = NoCost (record { number = number; place = place })
+abbrev cost_back : Answer GroupCostValue → Result GroupCost Refusal
+cost_back (value v) = Ok (record { size = v.size; cost = v.cost })
+cost_back (refusal number place) = Err (refusal_by number place)
 
-cost_is : (a : GroupCost) → cost_back (group_cost_of a) ≡ a
-cost_is (Cost size cost) = refl
-cost_is (NoCost r) = refl
+cost_is : (a : Result GroupCost Refusal) → cost_back (group_cost_of a) ≡ a
+cost_is (Ok g) = refl
+cost_is (Err r) = error_is r
 
-pub group_cost_one_to_one : (a b : GroupCost) → group_cost_of a ≡ group_cost_of b → a ≡ b
+pub group_cost_one_to_one : (a b : Result GroupCost Refusal) → group_cost_of a ≡ group_cost_of b → a ≡ b
 group_cost_one_to_one = read_back group_cost_of cost_back cost_is
 
-abbrev total_back : Answer ℤ → TotalFound
-total_back (value d) = Difference d
-total_back (refusal number place) = NoDifference (record { number = number; place = place })
+abbrev search_back : Answer Verdict → Result (Option GroupFound) Refusal
+search_back (value (found amount size)) = Ok (Some (record { amount = amount; size = size }))
+search_back (value none) = Ok None
+search_back (refusal number place) = Err (refusal_by number place)
 
-total_is : (a : TotalFound) → total_back (total_of a) ≡ a
-total_is (Difference d) = refl
-total_is (NoDifference r) = refl
+search_is : (a : Result (Option GroupFound) Refusal) → search_back (search_of a) ≡ a
+search_is (Ok (Some g)) = refl
+search_is (Ok None) = refl
+search_is (Err r) = error_is r
 
-pub total_one_to_one : (a b : TotalFound) → total_of a ≡ total_of b → a ≡ b
-total_one_to_one = read_back total_of total_back total_is
-
-abbrev search_back : Answer Verdict → GroupFound
-search_back (value (found amount size)) = Group amount size
-search_back (value none) = NoGroup
-search_back (refusal number place) = NoSearch (record { number = number; place = place })
-
-search_is : (a : GroupFound) → search_back (search_of a) ≡ a
-search_is (Group amount size) = refl
-search_is NoGroup = refl
-search_is (NoSearch r) = refl
-
-pub search_one_to_one : (a b : GroupFound) → search_of a ≡ search_of b → a ≡ b
+pub search_one_to_one : (a b : Result (Option GroupFound) Refusal) → search_of a ≡ search_of b → a ≡ b
 search_one_to_one = read_back search_of search_back search_is
 
-abbrev cap_sums_back : Answer ℕ → CapSumsFound
-cap_sums_back (value n) = Total n
-cap_sums_back (refusal number place) = NoTotal (record { number = number; place = place })
+abbrev level_back : LevelAnswer → Result ℕ LevelRefusal
+level_back (split members) = Ok members
+level_back (not_split number place shortfall) = Err (record { refusal = refusal_by number place; shortfall = shortfall })
 
-cap_sums_is : (a : CapSumsFound) → cap_sums_back (cap_sums_of a) ≡ a
-cap_sums_is (Total n) = refl
-cap_sums_is (NoTotal r) = refl
+level_is : (a : Result ℕ LevelRefusal) → level_back (level_of a) ≡ a
+level_is (Ok members) = refl
+level_is (Err r) = ap (λ (refusal : Refusal). Err (record { refusal = refusal; shortfall = r.shortfall })) (refusal_is r.refusal)
 
-pub cap_sums_one_to_one : (a b : CapSumsFound) → cap_sums_of a ≡ cap_sums_of b → a ≡ b
-cap_sums_one_to_one = read_back cap_sums_of cap_sums_back cap_sums_is
-
-abbrev level_back : LevelAnswer → LevelSplit
-level_back (split members) = Split members
-level_back (not_split number place shortfall) = NoSplit number place shortfall
-
-level_is : (a : LevelSplit) → level_back (level_of a) ≡ a
-level_is (Split members) = refl
-level_is (NoSplit number place shortfall) = refl
-
-pub level_one_to_one : (a b : LevelSplit) → level_of a ≡ level_of b → a ≡ b
+pub level_one_to_one : (a b : Result ℕ LevelRefusal) → level_of a ≡ level_of b → a ≡ b
 level_one_to_one = read_back level_of level_back level_is
 
-abbrev margin_back : Answer MarginValue → MarginSplit
-margin_back (value v) = Widest v.margin v.users
-margin_back (refusal number place) = NoMargin (record { number = number; place = place })
+abbrev margin_back : Answer MarginValue → Result MarginSplit Refusal
+margin_back (value v) = Ok (record { margin = v.margin; users = v.users })
+margin_back (refusal number place) = Err (refusal_by number place)
 
-margin_is : (a : MarginSplit) → margin_back (margin_of a) ≡ a
-margin_is (Widest margin users) = refl
-margin_is (NoMargin r) = refl
+margin_is : (a : Result MarginSplit Refusal) → margin_back (margin_of a) ≡ a
+margin_is (Ok m) = refl
+margin_is (Err r) = error_is r
 
-pub margin_one_to_one : (a b : MarginSplit) → margin_of a ≡ margin_of b → a ≡ b
+pub margin_one_to_one : (a b : Result MarginSplit Refusal) → margin_of a ≡ margin_of b → a ≡ b
 margin_one_to_one = read_back margin_of margin_back margin_is
 
-abbrev step_back : Answer Step → Stepped
-step_back (value next) = Next
-step_back (value end) = End
-step_back (refusal number place) = NoStep (record { number = number; place = place })
+abbrev step_back : Answer Step → Result Stepped Refusal
+step_back (value next) = Ok Next
+step_back (value end) = Ok End
+step_back (refusal number place) = Err (refusal_by number place)
 
-step_is : (a : Stepped) → step_back (step_of a) ≡ a
-step_is Next = refl
-step_is End = refl
-step_is (NoStep r) = refl
+step_is : (a : Result Stepped Refusal) → step_back (step_of a) ≡ a
+step_is (Ok Next) = refl
+step_is (Ok End) = refl
+step_is (Err r) = error_is r
 
-pub step_one_to_one : (a b : Stepped) → step_of a ≡ step_of b → a ≡ b
+pub step_one_to_one : (a b : Result Stepped Refusal) → step_of a ≡ step_of b → a ≡ b
 step_one_to_one = read_back step_of step_back step_is

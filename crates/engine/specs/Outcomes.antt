@@ -1,65 +1,44 @@
--- What each case of an entry's answer stands for.
-use Rattle.std.specs.Prelude.{ℕ, ℤ}
+-- What each case of an entry's answer stands for, where its value is not a number.
+use Rattle.std.specs.Prelude.{ℕ, Result, Ok, Err, Option, Some, None}
 use Rattle.answer_forms.specs.Answer.{Answer, value, refusal}
+use Rattle.answer_forms.specs.Reasons.{number_of}
+use Rattle.answer_forms.specs.declared.Refusal.{Refusal}
 use Rattle.answers.specs.Needs.{NeedsValue}
 use Rattle.answers.specs.GroupCost.{GroupCostValue}
 use Rattle.answers.specs.Audit.{Verdict, found, none}
+use Rattle.answers.specs.Level.{LevelAnswer, split, refusal as not_split}
 use Rattle.answers.specs.Margin.{MarginValue}
 use Rattle.answers.specs.ParentLists.{Step, next, end}
-use Rattle.answers.specs.Level.{LevelAnswer, split, refusal as not_split}
-use Rattle.engine.specs.declared.members.MemberCount.{MemberCount}
-use Rattle.engine.specs.declared.members.MemberCount.TheVariants.{Members, Refused as NoMembers}
+use Rattle.level.specs.declared.refusal.LevelRefusal.{LevelRefusal}
 use Rattle.engine.specs.declared.needs.NeedsFound.{NeedsFound}
-use Rattle.engine.specs.declared.needs.NeedsFound.TheVariants.{Needs, Refused as NoNeeds}
 use Rattle.engine.specs.declared.group.GroupCost.{GroupCost}
-use Rattle.engine.specs.declared.group.GroupCost.TheVariants.{Cost, Refused as NoCost}
-use Rattle.engine.specs.declared.total.TotalFound.{TotalFound}
-use Rattle.engine.specs.declared.total.TotalFound.TheVariants.{Difference, Refused as NoDifference}
 use Rattle.engine.specs.declared.group_search.GroupFound.{GroupFound}
-use Rattle.engine.specs.declared.group_search.GroupFound.TheVariants.{Group, NoGroup, Refused as NoSearch}
-use Rattle.engine.specs.declared.cap_sums.CapSumsFound.{CapSumsFound}
-use Rattle.engine.specs.declared.cap_sums.CapSumsFound.TheVariants.{Total, Refused as NoTotal}
-use Rattle.engine.specs.declared.level_split.LevelSplit.{LevelSplit}
-use Rattle.engine.specs.declared.level_split.LevelSplit.TheVariants.{Split, Refused as NoSplit}
 use Rattle.engine.specs.declared.margin_split.MarginSplit.{MarginSplit}
-use Rattle.engine.specs.declared.margin_split.MarginSplit.TheVariants.{Split as Widest, Refused as NoMargin}
 use Rattle.engine.specs.declared.parent_step.Stepped.{Stepped}
-use Rattle.engine.specs.declared.parent_step.Stepped.TheVariants.{Next, End, Refused as NoStep}
+use Rattle.engine.specs.declared.parent_step.Stepped.TheVariants.{Next, End}
 
-abbrev pub member_count_of : MemberCount → Answer ℕ
-member_count_of (Members n) = value n
-member_count_of (NoMembers r) = refusal r.number r.place
+abbrev pub needs_of : Result NeedsFound Refusal → Answer NeedsValue
+needs_of (Ok n) = value (record { whole = n.whole; members = n.members })
+needs_of (Err r) = refusal (number_of r.reason) r.place
 
-abbrev pub needs_of : NeedsFound → Answer NeedsValue
-needs_of (Needs whole members) = value (record { whole = whole; members = members })
-needs_of (NoNeeds r) = refusal r.number r.place
+abbrev pub group_cost_of : Result GroupCost Refusal → Answer GroupCostValue
+group_cost_of (Ok g) = value (record { size = g.size; cost = g.cost })
+group_cost_of (Err r) = refusal (number_of r.reason) r.place
 
-abbrev pub group_cost_of : GroupCost → Answer GroupCostValue
-group_cost_of (Cost size cost) = value (record { size = size; cost = cost })
-group_cost_of (NoCost r) = refusal r.number r.place
+abbrev pub search_of : Result (Option GroupFound) Refusal → Answer Verdict
+search_of (Ok (Some g)) = value (found g.amount g.size)
+search_of (Ok None) = value none
+search_of (Err r) = refusal (number_of r.reason) r.place
 
-abbrev pub total_of : TotalFound → Answer ℤ
-total_of (Difference d) = value d
-total_of (NoDifference r) = refusal r.number r.place
+abbrev pub level_of : Result ℕ LevelRefusal → LevelAnswer
+level_of (Ok members) = split members
+level_of (Err r) = not_split (number_of r.refusal.reason) r.refusal.place r.shortfall
 
-abbrev pub search_of : GroupFound → Answer Verdict
-search_of (Group amount size) = value (found amount size)
-search_of NoGroup = value none
-search_of (NoSearch r) = refusal r.number r.place
+abbrev pub margin_of : Result MarginSplit Refusal → Answer MarginValue
+margin_of (Ok m) = value (record { margin = m.margin; users = m.users })
+margin_of (Err r) = refusal (number_of r.reason) r.place
 
-abbrev pub cap_sums_of : CapSumsFound → Answer ℕ
-cap_sums_of (Total n) = value n
-cap_sums_of (NoTotal r) = refusal r.number r.place
-
-abbrev pub level_of : LevelSplit → LevelAnswer
-level_of (Split members) = split members
-level_of (NoSplit number place shortfall) = not_split number place shortfall
-
-abbrev pub margin_of : MarginSplit → Answer MarginValue
-margin_of (Widest margin users) = value (record { margin = margin; users = users })
-margin_of (NoMargin r) = refusal r.number r.place
-
-abbrev pub step_of : Stepped → Answer Step
-step_of Next = value next
-step_of End = value end
-step_of (NoStep r) = refusal r.number r.place
+abbrev pub step_of : Result Stepped Refusal → Answer Step
+step_of (Ok Next) = value next
+step_of (Ok End) = value end
+step_of (Err r) = refusal (number_of r.reason) r.place

@@ -7,10 +7,9 @@ ghost use Rattle.answer_forms.specs.Answer.{answer, written};
 ghost use Rattle.answers.specs.Checks.{output_check};
 ghost use Rattle.answers.specs.ByArc.{by_arc_answer, by_arc_list};
 ghost use Rattle.tree.specs.Passes.{Sound, Costed, Marked};
-ghost use Rattle.engine.specs.Outcomes.{member_count_of};
+ghost use Rattle.answer_forms.specs.Checked.{answer_of};
 
-use crate::members::MemberCount;
-use answer_forms::Checked;
+use answer_forms::Refusal;
 use limits::MOST_ARCS;
 
 // `vertices` is room for one entry a member.
@@ -28,36 +27,41 @@ fn divide(parents: &[u16], costs: &[u32], marks: &[u16], vertices: &mut [u16], o
 }
 
 // The tree is accepted and its members are marked. 8.
-fn split_in_tree(parents: &[u16], costs: &[u32], marks: &[u16], out: &mut [u64]) -> MemberCount
+fn split_in_tree(
+    parents: &[u16],
+    costs: &[u32],
+    marks: &[u16],
+    out: &mut [u64],
+) -> Result<usize, Refusal>
     requires sound { Sound parents.now }
     requires costed { Costed parents.now costs.now }
     requires marked { Marked parents.now marks.now }
     ensures result_value { let n = network_of parents.now costs.now marks.now in
-        member_count_of result ≡ answer (output_check (member_count n) out.old) (member_count n) }
+        answer_of result ≡ answer (output_check (member_count n) out.old) (member_count n) }
     ensures out_after { let n = network_of parents.now costs.now marks.now in
         out.new ≡ written (output_check (member_count n) out.old) out.old (by_arc n) }
 {
     let members = tree::count_members(marks);
-    let output = checks::check_output(out.len(), members);
-    let Checked::Accepted = output else {
-        return MemberCount::Refused(answer_forms::refusal_of(output));
-    };
+    checks::check_output(out.len(), members)?;
     let mut vertices = [0u16; MOST_ARCS];
     divide(parents, costs, marks, &mut vertices[0..members], out);
-    MemberCount::Members(members)
+    Ok(members)
 }
 
 // Writes one share a member. The tree's refusals, then 8.
-pub fn split_by_arc(parents: &[u16], costs: &[u32], marks: &[u16], out: &mut [u64]) -> MemberCount
-    ensures result_value { member_count_of result
+#[tactic(auto, unfolding(answers::specs::ByArc::by_arc_answer, answers::specs::ByArc::by_arc_list))]
+pub fn split_by_arc(
+    parents: &[u16],
+    costs: &[u32],
+    marks: &[u16],
+    out: &mut [u64],
+) -> Result<usize, Refusal>
+    ensures result_value { answer_of result
         ≡ by_arc_answer (tree_of parents.now costs.now marks.now) out.old }
     ensures out_after { out.new
         ≡ by_arc_list (tree_of parents.now costs.now marks.now) out.old }
 {
-    let tree = checks::check_tree(parents, costs, marks);
-    let Checked::Accepted = tree else {
-        return MemberCount::Refused(answer_forms::refusal_of(tree));
-    };
+    checks::check_tree(parents, costs, marks)?;
     let m = parents.len();
     let mut counted = [0u32; MOST_ARCS];
     tree::write_counted(parents, costs, marks, &mut counted[0..m]);

@@ -5,28 +5,46 @@ ghost use Rattle.game.specs.Tree.{network_of};
 ghost use Rattle.answer_forms.specs.Answer.{accepted, value};
 ghost use Rattle.answers.specs.Classes.{classed_of, classed_check, joined, class_shares, paid_in, cost_in, by_class};
 ghost use Rattle.answers.specs.Classes.{classes_answer, classes_list, classes_totals};
-ghost use Rattle.engine.specs.Outcomes.{member_count_of};
+ghost use Rattle.answer_forms.specs.Checked.{answer_of};
 
-use crate::members::MemberCount;
-use answer_forms::Checked;
+use answer_forms::Refusal;
 use limits::MOST_ARCS;
 
 // The answer, and beside it the totals paid in each of four classes, then those of cost; 0 for a class that is not in
 // use, and beside a refusal.
-#[derive(Clone, Copy)]
+#[derive(Clone, Copy, Debug, PartialEq, Eq)]
 pub struct ClassSplit {
-    pub answer: MemberCount,
+    pub answer: Result<usize, Refusal>,
     pub totals: [u64; 8],
 }
 
-fn without_totals(answer: MemberCount) -> ClassSplit
-    ensures answer_value { result.answer ≡ answer }
+fn without_totals(refusal: Refusal) -> ClassSplit
+    ensures answer_value { result.answer ≡ Err refusal }
     ensures totals_value { result.totals ≡ replicate 8 0 }
 {
     ClassSplit {
-        answer,
+        answer: Err(refusal),
         totals: [0; 8],
     }
+}
+
+// 32, the tree's refusals, then 8; the number of members.
+#[tactic(auto, unfolding(answers::specs::Classes::classes_answer))]
+fn check_lists(
+    parents: &[u16],
+    costs: &[u32],
+    marks: &[u16],
+    classes: usize,
+    out: &[u64],
+) -> Result<usize, Refusal>
+    ensures { answer_of result
+        ≡ classes_answer (classed_of parents.now costs.now marks.now classes)
+        out.now }
+{
+    cost_classes::check_classed(parents, costs, marks, classes)?;
+    let members = tree::count_members(marks);
+    checks::check_output(out.len(), classes * members)?;
+    Ok(members)
 }
 
 // The lists are accepted, and `vertices` is room for one entry a member.
@@ -41,7 +59,7 @@ fn split_accepted(
     requires classes_value { classed_check (classed_of parents.now costs.now marks.now classes) ≡ accepted }
     requires vertices_len { length vertices.old ≡ member_count (network_of parents.now [] marks.now) }
     requires out_len { length out.old ≡ classes * member_count (network_of parents.now [] marks.now) }
-    ensures answer_value { member_count_of result.answer
+    ensures answer_value { answer_of result.answer
         ≡ value (member_count (network_of parents.now [] marks.now)) }
     ensures totals_value { let w = classed_of parents.now costs.now marks.now classes in
         result.totals ≡ by_class classes (paid_in w) ++ by_class classes (cost_in w) }
@@ -52,12 +70,13 @@ fn split_accepted(
     let members = vertices.len();
     let totals = cost_classes::write_classes(parents, costs, marks, classes, vertices, out);
     ClassSplit {
-        answer: MemberCount::Members(members),
+        answer: Ok(members),
         totals,
     }
 }
 
 // Writes one share a member and class, class after class. 32, the tree's refusals, then 8.
+#[tactic(auto, unfolding(answers::specs::Classes::classes_answer, answers::specs::Classes::classes_list, answers::specs::Classes::classes_totals))]
 pub fn split_classes(
     parents: &[u16],
     costs: &[u32],
@@ -65,7 +84,7 @@ pub fn split_classes(
     classes: usize,
     out: &mut [u64],
 ) -> ClassSplit
-    ensures answer_value { member_count_of result.answer
+    ensures answer_value { answer_of result.answer
         ≡ classes_answer (classed_of parents.now costs.now marks.now classes)
         out.old }
     ensures totals_value { result.totals
@@ -75,22 +94,18 @@ pub fn split_classes(
         ≡ classes_list (classed_of parents.now costs.now marks.now classes)
         out.old }
 {
-    let classed = cost_classes::check_classed(parents, costs, marks, classes);
-    let Checked::Accepted = classed else {
-        return without_totals(MemberCount::Refused(answer_forms::refusal_of(classed)));
-    };
-    let members = tree::count_members(marks);
-    let output = checks::check_output(out.len(), classes * members);
-    let Checked::Accepted = output else {
-        return without_totals(MemberCount::Refused(answer_forms::refusal_of(output)));
-    };
-    let mut vertices = [0u16; MOST_ARCS];
-    split_accepted(
-        parents,
-        costs,
-        marks,
-        classes,
-        &mut vertices[0..members],
-        out,
-    )
+    match check_lists(parents, costs, marks, classes, out) {
+        Ok(members) => {
+            let mut vertices = [0u16; MOST_ARCS];
+            split_accepted(
+                parents,
+                costs,
+                marks,
+                classes,
+                &mut vertices[0..members],
+                out,
+            )
+        }
+        Err(refusal) => without_totals(refusal),
+    }
 }

@@ -11,17 +11,23 @@ ghost use Rattle.answers.specs.GroupCost.{group_cost_answer};
 ghost use Rattle.tree.specs.Passes.{Sound, Costed, Marked};
 ghost use Rattle.engine.specs.Outcomes.{group_cost_of};
 
-use answer_forms::{Checked, Refusal};
+use answer_forms::Refusal;
 use limits::MOST_ARCS;
 
-#[derive(Clone, Copy)]
-pub enum GroupCost {
-    Cost { size: usize, cost: u64 },
-    Refused(Refusal),
+// How many members the group has, and its cost.
+#[derive(Clone, Copy, Debug, PartialEq, Eq)]
+pub struct GroupCost {
+    pub size: usize,
+    pub cost: u64,
 }
 
 // The tree is accepted and its members are marked. 5.
-fn cost_in_tree(parents: &[u16], costs: &[u32], marks: &[u16], group: [u64; 16]) -> GroupCost
+fn cost_in_tree(
+    parents: &[u16],
+    costs: &[u32],
+    marks: &[u16],
+    group: [u64; 16],
+) -> Result<GroupCost, Refusal>
     requires sound { Sound parents.now }
     requires costed { Costed parents.now costs.now }
     requires marked { Marked parents.now marks.now }
@@ -30,24 +36,24 @@ fn cost_in_tree(parents: &[u16], costs: &[u32], marks: &[u16], group: [u64; 16])
         (record { size = size (member_count n) (bit group); cost = group_cost n (group_by_number n (bit group)) }) }
 {
     let members = tree::count_members(marks);
-    let bits = bits::check_group(members, group);
-    let Checked::Accepted = bits else {
-        return GroupCost::Refused(answer_forms::refusal_of(bits));
-    };
+    bits::check_group(members, group)?;
     let size = bits::size_of(group);
     let cost = tree::cost_of(parents, costs, marks, group, members);
-    GroupCost::Cost { size, cost }
+    Ok(GroupCost { size, cost })
 }
 
 // The tree's refusals, then 5.
-pub fn group_cost(parents: &[u16], costs: &[u32], marks: &[u16], group: [u64; 16]) -> GroupCost
+#[tactic(auto, unfolding(answers::specs::GroupCost::group_cost_answer))]
+pub fn group_cost(
+    parents: &[u16],
+    costs: &[u32],
+    marks: &[u16],
+    group: [u64; 16],
+) -> Result<GroupCost, Refusal>
     ensures { group_cost_of result
         ≡ group_cost_answer (tree_of parents.now costs.now marks.now) group }
 {
-    let tree = checks::check_tree(parents, costs, marks);
-    let Checked::Accepted = tree else {
-        return GroupCost::Refused(answer_forms::refusal_of(tree));
-    };
+    checks::check_tree(parents, costs, marks)?;
     let m = parents.len();
     let mut counted = [0u32; MOST_ARCS];
     tree::write_counted(parents, costs, marks, &mut counted[0..m]);

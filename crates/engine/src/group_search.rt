@@ -11,25 +11,24 @@ ghost use Rattle.tree.specs.Passes.{Sound, Costed, Marked};
 ghost use Rattle.engine.specs.Outcomes.{search_of};
 
 use crate::proposed::check_proposed;
-use answer_forms::{Checked, Refusal};
+use answer_forms::Refusal;
 use limits::MOST_ARCS;
 
-#[derive(Clone, Copy)]
-pub enum GroupFound {
-    // The greatest overpayment of a group, and the size of the group.
-    Group { amount: u64, size: usize },
-    NoGroup,
-    Refused(Refusal),
+// The greatest overpayment of a group, and the size of the group.
+#[derive(Clone, Copy, Debug, PartialEq, Eq)]
+pub struct GroupFound {
+    pub amount: u64,
+    pub size: usize,
 }
 
 // The answer, and beside it the group that is found; the words are 0 in every other answer.
-#[derive(Clone, Copy)]
+#[derive(Clone, Copy, Debug, PartialEq, Eq)]
 pub struct Searched {
-    pub answer: GroupFound,
+    pub answer: Result<Option<GroupFound>, Refusal>,
     pub group: [u64; 16],
 }
 
-fn without_group(answer: GroupFound) -> Searched
+fn without_group(answer: Result<Option<GroupFound>, Refusal>) -> Searched
     ensures answer_value { result.answer ≡ answer }
     ensures group_value { result.group ≡ replicate 16 0 }
 {
@@ -55,16 +54,17 @@ fn search_in_tree(parents: &[u16], costs: &[u32], marks: &[u16], proposal: &[i64
     let amount = found.amount;
     let group = found.group;
     if amount == 0 {
-        return without_group(GroupFound::NoGroup);
+        return without_group(Ok(None));
     }
     let size = bits::size_of(group);
     Searched {
-        answer: GroupFound::Group { amount, size },
+        answer: Ok(Some(GroupFound { amount, size })),
         group,
     }
 }
 
 // The tree's refusals, then 6 and 7.
+#[tactic(auto, unfolding(answers::specs::Audit::search_answer, answers::specs::Audit::search_words))]
 pub fn find_group(parents: &[u16], costs: &[u32], marks: &[u16], proposal: &[i64]) -> Searched
     ensures answer_value { search_of result.answer
         ≡ search_answer (tree_of parents.now costs.now marks.now)
@@ -73,12 +73,13 @@ pub fn find_group(parents: &[u16], costs: &[u32], marks: &[u16], proposal: &[i64
         ≡ search_words (tree_of parents.now costs.now marks.now)
         proposal.now }
 {
-    let checked = check_proposed(parents, costs, marks, proposal);
-    let Checked::Accepted = checked else {
-        return without_group(GroupFound::Refused(answer_forms::refusal_of(checked)));
-    };
-    let m = parents.len();
-    let mut counted = [0u32; MOST_ARCS];
-    tree::write_counted(parents, costs, marks, &mut counted[0..m]);
-    search_in_tree(parents, &counted[0..m], marks, proposal)
+    match check_proposed(parents, costs, marks, proposal) {
+        Ok(()) => {
+            let m = parents.len();
+            let mut counted = [0u32; MOST_ARCS];
+            tree::write_counted(parents, costs, marks, &mut counted[0..m]);
+            search_in_tree(parents, &counted[0..m], marks, proposal)
+        }
+        Err(refusal) => without_group(Err(refusal)),
+    }
 }

@@ -4,66 +4,13 @@ ghost use Rattle.game.specs.Network.{member_count};
 ghost use Rattle.game.specs.Tree.{tree_of, network_of};
 ghost use Rattle.answer_forms.specs.Answer.{accepted, ◌then◌};
 ghost use Rattle.answers.specs.Checks.{output_check};
-ghost use Rattle.answers.specs.Level.{refusal, caps_check, limits_check, split_from, level_or, list_after, level_shares};
+ghost use Rattle.answers.specs.Level.{caps_check, limits_check, split_from, level_or, list_after, level_shares};
 ghost use Rattle.answers.specs.Level.{level_answer, level_list};
-ghost use Rattle.answer_forms.specs.Checked.{check_of};
 ghost use Rattle.tree.specs.Passes.{Sound, Costed, Marked};
-ghost use Rattle.level.specs.Stops.{answer_of};
 ghost use Rattle.engine.specs.Outcomes.{level_of};
 
-use answer_forms::{Checked, Refusal};
-use level::Stop;
+use level::LevelRefusal;
 use limits::MOST_ARCS;
-
-#[derive(Clone, Copy)]
-pub enum LevelSplit {
-    // The number of members.
-    Split(usize),
-    // The shortfall is 0 except with refusal 9.
-    Refused {
-        number: u32,
-        place: usize,
-        shortfall: u64,
-    },
-}
-
-fn refused(r: Refusal) -> LevelSplit
-    ensures { level_of result ≡ refusal r.number r.place 0 }
-{
-    LevelSplit::Refused {
-        number: r.number,
-        place: r.place,
-        shortfall: 0,
-    }
-}
-
-// The first answer where it is a refusal, else the second.
-fn first_refusal(first: Checked, second: Checked) -> Checked
-    ensures { check_of result ≡ (check_of first then check_of second) }
-{
-    let Checked::Accepted = first else {
-        return first;
-    };
-    second
-}
-
-// The number of members, or what stops the split.
-fn answer(members: usize, stop: Stop) -> LevelSplit
-    ensures { level_of result ≡ answer_of members «stop» }
-{
-    match stop {
-        Stop::Nothing => LevelSplit::Split(members),
-        Stop::Refused {
-            number,
-            arc,
-            shortfall,
-        } => LevelSplit::Refused {
-            number,
-            place: arc,
-            shortfall,
-        },
-    }
-}
 
 // The lists are accepted; `vertices` is room for one entry a member. 9 and 28.
 fn split_accepted(
@@ -74,7 +21,7 @@ fn split_accepted(
     floors: &[u64],
     vertices: &mut [u16],
     out: &mut [u64],
-) -> LevelSplit
+) -> Result<usize, LevelRefusal>
     requires sound { Sound parents.now }
     requires costed { Costed parents.now costs.now }
     requires marked { Marked parents.now marks.now }
@@ -90,8 +37,8 @@ fn split_accepted(
 {
     tree::write_members(marks, vertices);
     let members = vertices.len();
-    let stop = level::write_level(parents, costs, vertices, caps, floors, out);
-    answer(members, stop)
+    level::write_level(parents, costs, vertices, caps, floors, out)?;
+    Ok(members)
 }
 
 // The tree is accepted and its members are marked. 6 and 7 on caps and on floors, 27, 8, then 9 and 28.
@@ -102,7 +49,7 @@ fn split_in_tree(
     caps: &[u64],
     floors: &[u64],
     out: &mut [u64],
-) -> LevelSplit
+) -> Result<usize, LevelRefusal>
     requires sound { Sound parents.now }
     requires costed { Costed parents.now costs.now }
     requires marked { Marked parents.now marks.now }
@@ -116,12 +63,8 @@ fn split_in_tree(
         ≡ list_after (level_of result) out.old (level_shares n caps.now floors.now) }
 {
     let members = tree::count_members(marks);
-    let limits = checks::check_limits(members, caps, floors);
-    let output = checks::check_output(out.len(), members);
-    let lists = first_refusal(limits, output);
-    let Checked::Accepted = lists else {
-        return refused(answer_forms::refusal_of(lists));
-    };
+    checks::check_limits(members, caps, floors)?;
+    checks::check_output(out.len(), members)?;
     let mut vertices = [0u16; MOST_ARCS];
     split_accepted(
         parents,
@@ -135,6 +78,7 @@ fn split_in_tree(
 }
 
 // Writes one share a member. The tree's refusals, 6 and 7 on caps and on floors, 27, 8, then 9 and 28.
+#[tactic(auto, unfolding(answers::specs::Level::level_answer, answers::specs::Level::level_list))]
 pub fn split_level(
     parents: &[u16],
     costs: &[u32],
@@ -142,7 +86,7 @@ pub fn split_level(
     caps: &[u64],
     floors: &[u64],
     out: &mut [u64],
-) -> LevelSplit
+) -> Result<usize, LevelRefusal>
     ensures result_value { level_of result
         ≡ level_answer (tree_of parents.now costs.now marks.now) caps.now
         floors.now out.old }
@@ -150,10 +94,7 @@ pub fn split_level(
         ≡ level_list (tree_of parents.now costs.now marks.now) caps.now
         floors.now out.old }
 {
-    let tree = checks::check_tree(parents, costs, marks);
-    let Checked::Accepted = tree else {
-        return refused(answer_forms::refusal_of(tree));
-    };
+    checks::check_tree(parents, costs, marks)?;
     let m = parents.len();
     let mut counted = [0u32; MOST_ARCS];
     tree::write_counted(parents, costs, marks, &mut counted[0..m]);

@@ -11,14 +11,14 @@ ghost use Rattle.tree.specs.Passes.{Sound, Costed, Marked};
 ghost use Rattle.engine.specs.Inner.{margin_at};
 ghost use Rattle.engine.specs.Outcomes.{margin_of};
 
-use answer_forms::{Checked, Refusal};
+use answer_forms::Refusal;
 use limits::MOST_ARCS;
 
-#[derive(Clone, Copy)]
-pub enum MarginSplit {
-    // The widest margin, and the number of the arc's users.
-    Split { margin: u64, users: usize },
-    Refused(Refusal),
+// The widest margin, and the number of the arc's users.
+#[derive(Clone, Copy, Debug, PartialEq, Eq)]
+pub struct MarginSplit {
+    pub margin: u64,
+    pub users: usize,
 }
 
 // `vertices` is room for one entry a member.
@@ -62,13 +62,13 @@ fn split_accepted(
     requires users_value { users ≡ member_count (network_of parents.now costs.now marks.now) }
     requires out_len { length out.old ≡ member_count (network_of parents.now costs.now marks.now) }
     ensures result_value { let n = network_of parents.now costs.now marks.now in
-        margin_of result ≡ value (margin_at n arc) }
+        result ≡ record { margin = widest n arc; users = member_count n } }
     ensures out_after { let n = network_of parents.now costs.now marks.now in
         out.new ≡ shares_at n (widest n arc) }
 {
     let mut vertices = [0u16; MOST_ARCS];
     let margin = share_out(parents, costs, marks, arc, &mut vertices[0..users], out);
-    MarginSplit::Split { margin, users }
+    MarginSplit { margin, users }
 }
 
 // The arc leaves the source, and the marks are those of its branch. 26, then 8.
@@ -78,7 +78,7 @@ fn split_branch(
     marks: &[u16],
     arc: usize,
     out: &mut [u64],
-) -> MarginSplit
+) -> Result<MarginSplit, Refusal>
     requires sound { Sound parents.now }
     requires costed { Costed parents.now costs.now }
     requires marked { Marked parents.now marks.now }
@@ -93,28 +93,23 @@ fn split_branch(
         out.old (shares_at n (widest n arc)) }
 {
     let users = tree::count_members(marks);
-    let several = checks::check_branch_users(users, arc);
-    let Checked::Accepted = several else {
-        return MarginSplit::Refused(answer_forms::refusal_of(several));
-    };
-    let output = checks::check_output(out.len(), users);
-    let Checked::Accepted = output else {
-        return MarginSplit::Refused(answer_forms::refusal_of(output));
-    };
+    checks::check_branch_users(users, arc)?;
+    checks::check_output(out.len(), users)?;
     let m = parents.len();
     let mut counted = [0u32; MOST_ARCS];
     tree::write_counted(parents, costs, marks, &mut counted[0..m]);
-    split_accepted(parents, &counted[0..m], marks, arc, users, out)
+    Ok(split_accepted(parents, &counted[0..m], marks, arc, users, out))
 }
 
 // Writes one share for each user of the arc. The tree's refusals, 25, 26, then 8.
+#[tactic(auto, unfolding(answers::specs::Margin::margin_answer, answers::specs::Margin::margin_list))]
 pub fn split_margin(
     parents: &[u16],
     costs: &[u32],
     marks: &[u16],
     arc: usize,
     out: &mut [u64],
-) -> MarginSplit
+) -> Result<MarginSplit, Refusal>
     ensures result_value { margin_of result
         ≡ margin_answer (tree_of parents.now costs.now marks.now) arc
         out.old }
@@ -122,14 +117,8 @@ pub fn split_margin(
         ≡ margin_list (tree_of parents.now costs.now marks.now) arc
         out.old }
 {
-    let tree = checks::check_tree(parents, costs, marks);
-    let Checked::Accepted = tree else {
-        return MarginSplit::Refused(answer_forms::refusal_of(tree));
-    };
-    let leaves = checks::check_branch_arc(parents, arc);
-    let Checked::Accepted = leaves else {
-        return MarginSplit::Refused(answer_forms::refusal_of(leaves));
-    };
+    checks::check_tree(parents, costs, marks)?;
+    checks::check_branch_arc(parents, arc)?;
     let m = parents.len();
     let mut branch = [0u16; MOST_ARCS];
     margin::write_branch_marks(parents, marks, arc, &mut branch[0..m]);

@@ -9,17 +9,23 @@ ghost use Rattle.answers.specs.Needs.{needs_answer, needs_list};
 ghost use Rattle.tree.specs.Passes.{Sound, Costed, Marked};
 ghost use Rattle.engine.specs.Outcomes.{needs_of};
 
-use answer_forms::{Checked, Refusal};
+use answer_forms::Refusal;
 use limits::MOST_ARCS;
 
-#[derive(Clone, Copy)]
-pub enum NeedsFound {
-    Needs { whole: u64, members: usize },
-    Refused(Refusal),
+// The whole cost, and the number of members.
+#[derive(Clone, Copy, Debug, PartialEq, Eq)]
+pub struct NeedsFound {
+    pub whole: u64,
+    pub members: usize,
 }
 
 // The tree is accepted and its members are marked. 8.
-fn list_in_tree(parents: &[u16], costs: &[u32], marks: &[u16], out: &mut [u64]) -> NeedsFound
+fn list_in_tree(
+    parents: &[u16],
+    costs: &[u32],
+    marks: &[u16],
+    out: &mut [u64],
+) -> Result<NeedsFound, Refusal>
     requires sound { Sound parents.now }
     requires costed { Costed parents.now costs.now }
     requires marked { Marked parents.now marks.now }
@@ -30,26 +36,26 @@ fn list_in_tree(parents: &[u16], costs: &[u32], marks: &[u16], out: &mut [u64]) 
         out.new ≡ written (output_check (length parents.now) out.old) out.old
         (list (length parents.now) (need n)) }
 {
-    let output = checks::check_output(out.len(), parents.len());
-    let Checked::Accepted = output else {
-        return NeedsFound::Refused(answer_forms::refusal_of(output));
-    };
+    checks::check_output(out.len(), parents.len())?;
     let members = tree::count_members(marks);
     let whole = tree::write_needs(parents, costs, out);
-    NeedsFound::Needs { whole, members }
+    Ok(NeedsFound { whole, members })
 }
 
 // Writes the need of each arc. The tree's refusals, then 8.
-pub fn list_needs(parents: &[u16], costs: &[u32], marks: &[u16], out: &mut [u64]) -> NeedsFound
+#[tactic(auto, unfolding(answers::specs::Needs::needs_answer, answers::specs::Needs::needs_list))]
+pub fn list_needs(
+    parents: &[u16],
+    costs: &[u32],
+    marks: &[u16],
+    out: &mut [u64],
+) -> Result<NeedsFound, Refusal>
     ensures result_value { needs_of result
         ≡ needs_answer (tree_of parents.now costs.now marks.now) out.old }
     ensures out_after { out.new
         ≡ needs_list (tree_of parents.now costs.now marks.now) out.old }
 {
-    let tree = checks::check_tree(parents, costs, marks);
-    let Checked::Accepted = tree else {
-        return NeedsFound::Refused(answer_forms::refusal_of(tree));
-    };
+    checks::check_tree(parents, costs, marks)?;
     let m = parents.len();
     let mut counted = [0u32; MOST_ARCS];
     tree::write_counted(parents, costs, marks, &mut counted[0..m]);

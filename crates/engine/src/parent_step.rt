@@ -3,27 +3,26 @@ ghost use Rattle.std.specs.Prelude.{◌≡◌};
 ghost use Rattle.answers.specs.ParentLists.{step_answer, step_list};
 ghost use Rattle.engine.specs.Outcomes.{step_of};
 
-use answer_forms::{Checked, Refusal};
+use answer_forms::Refusal;
 
-#[derive(Clone, Copy)]
+#[derive(Clone, Copy, Debug, PartialEq, Eq)]
 pub enum Stepped {
+    // The list is the next one.
     Next,
+    // The list was the last one.
     End,
-    Refused(Refusal),
 }
 
 // Writes the next list over the one that is lent; at the last one the end, and the list stays. 31, then 3.
-pub fn next_parents(parents: &mut [u16]) -> Stepped
+#[tactic(auto, unfolding(answers::specs::ParentLists::step_answer, answers::specs::ParentLists::step_list))]
+pub fn next_parents(parents: &mut [u16]) -> Result<Stepped, Refusal>
     ensures result_value { step_of result ≡ step_answer parents.old }
     ensures parents_after { parents.new ≡ step_list parents.old }
 {
-    let list = checks::check_small(parents);
-    let Checked::Accepted = list else {
-        return Stepped::Refused(answer_forms::refusal_of(list));
-    };
+    checks::check_small(parents)?;
     if parent_lists::step(parents) {
-        Stepped::Next
+        Ok(Stepped::Next)
     } else {
-        Stepped::End
+        Ok(Stepped::End)
     }
 }

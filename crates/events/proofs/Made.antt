@@ -1,64 +1,84 @@
 -- The state made of a tree: its padded lists, and the shares, which are written to the front of an array of zeros.
-use Prim.Native.Nat.{ℕ, zero, suc, ◌-◌, ◌≤◌}
-use mathlib.Core.Path.{◌≡◌, sym, ap, ap₂, ◌∙◌}
-use mathlib.Core.List.{List, ◌++◌}
-use native.Mathlib.Nat.{sub-zero}
-use native.Mathlib.Omega.{arith}
-use lib.ListN.{length, take, drop, replicate}
+use Prim.Native.Nat.{ℕ, ◌-◌, ◌≤◌}
+use mathlib.Core.Path.{◌≡◌, refl, sym, ap, ◌∙◌}
+use mathlib.Core.List.{List, [], ◌++◌}
+use borrow.Author.Tests.{eq-eqb}
+use lib.ListN.{length, take, drop}
 use Rattle.basics.proofs.Lists.{zeros_length}
 use Rattle.limits.specs.Limits.{most_arcs}
 use Rattle.game.specs.Network.{member_count}
 use Rattle.game.specs.Tree.{Tree, network}
 use Rattle.game.specs.ByArc.{by_arc}
-use Rattle.answer_forms.specs.Answer.{accepted}
+use Rattle.answer_forms.specs.Answer.{Check, accepted, refused, value, refusal, written}
+use Rattle.answer_forms.proofs.Composed.{answered, refused_answer, then_nothing}
 use Rattle.answers.specs.Checks.{tree_check}
-use Rattle.answers.specs.Members.{member_count_answer}
+use Rattle.answers.specs.Members.{members_check, member_count_answer}
 use Rattle.answers.specs.ByArc.{by_arc_answer, by_arc_list}
-use Rattle.answers.specs.States.{State, padded, made_state}
+use Rattle.answers.specs.States.{State, padded, no_state, made_state}
 use Rattle.answers.proofs.ByArcLaws.{by_arc_laws}
-use Rattle.events.proofs.Counted.{check_same, split_answer, split_list}
+use Rattle.events.proofs.Arrays.{zeros_are, front_padded}
 
-zeros_left : (n k : ℕ) → drop k (replicate n 0) ≡ replicate {A = ℕ} (n - k) 0
-zeros_left n zero = ap (λ (i : ℕ). replicate {A = ℕ} i 0) (sym (sub-zero n))
-zeros_left zero (suc k) = ap (λ (i : ℕ). replicate {A = ℕ} i 0) {x = 0} {y = 0 - suc k} (omega arith)
-zeros_left (suc n) (suc k) =
-    zeros_left n k ∙ ap (λ (i : ℕ). replicate {A = ℕ} i 0) {x = n - k} {y = suc n - suc k} (omega arith)
+once_more : {A : Type 0} (c : Check) (before after : A) → written c before (written c before after) ≡ written c before after
+once_more accepted before after = refl
+once_more (refused number place) before after = refl
 
-module _ (t : Tree) (n : ℕ) (counts : n ≡ member_count (network t)) (few : n ≤ most_arcs) where
-  -- the front of an array of zeros, with one entry a member
+-- what the engine's answer says of the tree that it is about
+module _ (t : Tree) where
+  pub counted : {n : ℕ} → value n ≡ member_count_answer t → (tree_check t ≡ accepted) × (n ≡ member_count (network t))
+  unfolding member_count_answer
+  counted e = answered (tree_check t) _ _ (sym e)
+
+  pub not_counted : {number place : ℕ} → refusal number place ≡ member_count_answer t
+      → tree_check t ≡ refused number place
+  unfolding member_count_answer
+  not_counted e = refused_answer (tree_check t) _ e
+
+-- shares written to the front of an array of zeros, one a member
+module _ (t : Tree) (n : ℕ) (counts : n ≡ member_count (network t)) (few : n ≤ most_arcs)
+    {zeros : List ℕ} (are : zeros ≡ padded []) where
   abbrev lent : List ℕ
-  lent = take (n - 0) (replicate most_arcs 0)
+  lent = take (n - 0) zeros
 
   sized : length lent ≡ member_count (network t)
-  sized = zeros_length most_arcs n few ∙ counts
+  sized = ap (λ (z : List ℕ). length (take (n - 0) z)) (zeros_are are) ∙ zeros_length most_arcs n few ∙ counts
 
-  pub lent_answer : by_arc_answer t lent ≡ member_count_answer t
-  lent_answer = split_answer t lent sized
+  check_same : members_check t lent ≡ tree_check t
+  check_same = then_nothing (tree_check t) (rw (eq-eqb (length lent) (member_count (network t)) sized))
+
+  lent_answer : by_arc_answer t lent ≡ member_count_answer t
+  unfolding by_arc_answer member_count_answer
+  lent_answer = rw check_same
+
+  pub split_accepted : {k : ℕ} → value k ≡ by_arc_answer t lent → tree_check t ≡ accepted
+  split_accepted e = (counted t (e ∙ lent_answer)).0
+
+  pub split_refused : {number place : ℕ} → refusal number place ≡ by_arc_answer t lent
+      → tree_check t ≡ refused number place
+  split_refused e = not_counted t (e ∙ lent_answer)
 
   module _ (ok : tree_check t ≡ accepted) where
     lent_list : by_arc_list t lent ≡ by_arc (network t)
-    lent_list = rw ok at (split_list t lent sized)
+    unfolding by_arc_list
+    lent_list = rw (check_same, ok)
 
-    shares_length : length (by_arc (network t)) ≡ n
+    shares_length : n ≡ length (by_arc (network t))
     shares_length =
-        ap length (sym lent_list)
-        ∙ (by_arc_laws t lent (check_same t lent sized ∙ ok)).one_a_member
-        ∙ sym counts
+        counts ∙ sym (by_arc_laws t lent (check_same ∙ ok)).one_a_member ∙ ap length lent_list
 
-    pub shares_padded : {l : List ℕ} → l ≡ by_arc_list t lent
-        → l ++ drop (n - 0) (replicate most_arcs 0) ≡ padded (by_arc (network t))
-    unfolding padded
-    shares_padded e =
-        ap₂ (λ (a b : List ℕ). a ++ b) (e ∙ lent_list)
-        (zeros_left most_arcs (n - 0)
-        ∙ ap (λ (i : ℕ). replicate {A = ℕ} i 0) {x = most_arcs - (n - 0)} {y = most_arcs - length (by_arc (network t))}
-        (omega (arith, shares_length)))
+    pub shares_padded : {l : List ℕ} → l ≡ by_arc_list t lent → l ++ drop (n - 0) zeros ≡ padded (by_arc (network t))
+    shares_padded e = front_padded are (e ∙ lent_list) shares_length
 
-module _ (t : Tree) (ok : tree_check t ≡ accepted) {ps cs ms shares : List ℕ} {n : ℕ} where
-  pub made : ps ≡ padded t.parents → cs ≡ padded t.costs → ms ≡ padded t.marks
+module _ (t : Tree) (n : ℕ) where
+  pub made : {ps cs ms shares : List ℕ} → tree_check t ≡ accepted
+      → ps ≡ padded t.parents → cs ≡ padded t.costs → ms ≡ padded t.marks
       → shares ≡ padded (by_arc (network t))
       → ◌≡◌ {A = State}
       (record { arcs = length t.parents; parents = ps; costs = cs; marks = ms; shares = shares; committed = n })
       (made_state t n)
   unfolding made_state
-  made p c m s = rw (ok, p, c, m, s)
+  made ok p c m s = rw (ok, p, c, m, s)
+
+  -- a refused tree makes the state that is 0 throughout
+  pub made_or_zero : written (tree_check t) no_state (made_state t n) ≡ made_state t n
+  unfolding made_state
+  made_or_zero = once_more (tree_check t) _ _

@@ -1,6 +1,9 @@
 -- Two states, events, quotes or answers that stand for the same are the same: each can be read back.
 use mathlib.Core.Path.{◌≡◌, refl, sym, ap, ◌∙◌}
+use Rattle.std.specs.Prelude.{Result, Ok, Err}
 use Rattle.answer_forms.specs.Answer.{Answer, value, refusal}
+use Rattle.answer_forms.proofs.Reasons.{reason_by, reason_is}
+use Rattle.answer_forms.specs.declared.Refusal.{Refusal}
 use Rattle.answers.specs.States.{State as HeldState}
 use Rattle.answers.specs.Events.{Change as MadeChange, arrive, leave, new_cost, Event as MadeEvent}
 use Rattle.answers.specs.Quotes.{Quote as MadeQuote, QuoteValue}
@@ -10,8 +13,7 @@ use Rattle.events.specs.declared.changes.Change.{Change}
 use Rattle.events.specs.declared.changes.Change.TheVariants.{Arrive, Leave, NewCost}
 use Rattle.events.specs.declared.changes.Event.{Event}
 use Rattle.events.specs.declared.quotes.Quote.{Quote}
-use Rattle.events.specs.declared.asking.QuoteGiven.{QuoteGiven}
-use Rattle.events.specs.declared.asking.QuoteGiven.TheVariants.{Quoted, Refused}
+use Rattle.events.specs.declared.asking.Quoted.{Quoted}
 
 abbrev state_back : HeldState → State
 state_back h =
@@ -55,13 +57,13 @@ quote_is q = ap (λ (e : Event). record { event = e; committed = q.committed }) 
 pub quote_one_to_one : (a b : Quote) → quote_of a ≡ quote_of b → a ≡ b
 quote_one_to_one a b e = sym (quote_is a) ∙ ap quote_back e ∙ quote_is b
 
-abbrev given_back : Answer QuoteValue → QuoteGiven
-given_back (value v) = Quoted v.members (quote_back v.quote)
-given_back (refusal number place) = Refused (record { number = number; place = place })
+abbrev given_back : Answer QuoteValue → Result Quoted Refusal
+given_back (value v) = Ok (record { members = v.members; quote = quote_back v.quote })
+given_back (refusal number place) = Err (record { reason = reason_by number; place = place })
 
-given_is : (g : QuoteGiven) → given_back (quote_given_of g) ≡ g
-given_is (Quoted members quote) = ap (Quoted members) (quote_is quote)
-given_is (Refused r) = refl
+given_is : (g : Result Quoted Refusal) → given_back (quote_given_of g) ≡ g
+given_is (Ok q) = ap (λ (quote : Quote). Ok (record { members = q.members; quote = quote })) (quote_is q.quote)
+given_is (Err r) = ap (λ reason. Err (record { reason = reason; place = r.place })) (reason_is r.reason)
 
-pub given_one_to_one : (a b : QuoteGiven) → quote_given_of a ≡ quote_given_of b → a ≡ b
+pub given_one_to_one : (a b : Result Quoted Refusal) → quote_given_of a ≡ quote_given_of b → a ≡ b
 given_one_to_one a b e = sym (given_is a) ∙ ap given_back e ∙ given_is b

@@ -7,10 +7,9 @@ mod asking;
 mod changes;
 mod committing;
 mod make;
-mod padding;
 mod quotes;
 
-pub use asking::{Asked, QuoteGiven, ask};
+pub use asking::{Asked, Quoted, ask};
 pub use changes::{Change, Event};
 pub use committing::commit;
 pub use make::{State, StateAnswer, make_state};

@@ -1,7 +1,7 @@
 pub mod OneToOne
 mod Writable
 mod WriterAnswered
-mod Answered
+mod Roomy
 pub mod Laws
 pub mod WriterLaws
 pub mod Table

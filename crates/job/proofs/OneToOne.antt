@@ -2,32 +2,24 @@
 -- be read back.
 use Prim.Native.Nat.{ℕ}
 use mathlib.Core.Path.{◌≡◌, refl, sym, ap, ◌∙◌}
+use Rattle.std.specs.Prelude.{Result, Ok, Err}
 use Rattle.answer_forms.specs.Answer.{Answer, value, refusal}
+use Rattle.answer_forms.specs.Checked.{answer_of}
+use Rattle.answer_forms.specs.declared.Refusal.{Refusal}
+use Rattle.engine.proofs.OneToOne.{answer_one_to_one}
 use Rattle.job.specs.Reader.{JobValue, job_read_of}
-use Rattle.job.specs.Writer.{job_length_of}
 use Rattle.job.specs.declared.JobRead.{JobRead}
-use Rattle.job.specs.declared.JobRead.TheVariants.{Read, Refused}
-use Rattle.job.specs.declared.writer.JobLength.{JobLength}
-use Rattle.job.specs.declared.writer.JobLength.TheVariants.{Length, Refused as NoJob}
 
-abbrev job_back : Answer JobValue → JobRead
-job_back (value v) = Read v.arcs v.members v.note
-job_back (refusal number place) = Refused (record { number = number; place = place })
+abbrev job_back : Answer JobValue → Answer JobRead
+job_back (value v) = value (record { arcs = v.arcs; members = v.members; note = v.note })
+job_back (refusal number place) = refusal number place
 
-job_is : (a : JobRead) → job_back (job_read_of a) ≡ a
-job_is (Read arcs members note) = refl
-job_is (Refused r) = refl
+job_is : (a : Result JobRead Refusal) → job_back (job_read_of a) ≡ answer_of a
+job_is (Ok r) = refl
+job_is (Err r) = refl
 
-pub job_read_one_to_one : (a b : JobRead) → job_read_of a ≡ job_read_of b → a ≡ b
-job_read_one_to_one a b e = sym (job_is a) ∙ ap job_back e ∙ job_is b
+pub job_read_one_to_one : (a b : Result JobRead Refusal) → job_read_of a ≡ job_read_of b → a ≡ b
+job_read_one_to_one a b e = answer_one_to_one a b (sym (job_is a) ∙ ap job_back e ∙ job_is b)
 
-abbrev length_back : Answer ℕ → JobLength
-length_back (value n) = Length n
-length_back (refusal number place) = NoJob (record { number = number; place = place })
-
-length_is : (a : JobLength) → length_back (job_length_of a) ≡ a
-length_is (Length n) = refl
-length_is (NoJob r) = refl
-
-pub job_length_one_to_one : (a b : JobLength) → job_length_of a ≡ job_length_of b → a ≡ b
-job_length_one_to_one a b e = sym (length_is a) ∙ ap length_back e ∙ length_is b
+pub job_length_one_to_one : (a b : Result ℕ Refusal) → answer_of a ≡ answer_of b → a ≡ b
+job_length_one_to_one = answer_one_to_one

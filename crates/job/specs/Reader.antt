@@ -1,11 +1,12 @@
 -- What the reader answers, and the lent lists afterwards.
-use Rattle.std.specs.Prelude.{ℕ, List, [], ◌∷◌, ◌++◌, length, drop, ℤ}
+use Rattle.std.specs.Prelude.{ℕ, List, [], ◌∷◌, ◌++◌, length, drop, ℤ, Result, Ok, Err}
 use Rattle.answer_forms.specs.Answer.{Check, Answer, value, refusal, ◌then◌, answer, written}
+use Rattle.answer_forms.specs.Reasons.{number_of}
+use Rattle.answer_forms.specs.declared.Refusal.{Refusal}
 use Rattle.job_bytes.specs.Format.{arc_offset, job_arcs, job_members, job_parents, job_costs, job_caps, job_proposals}
 use Rattle.job_bytes.specs.declared.version.Version.TheVariants.{One}
 use Rattle.job_checks.specs.JobCheck.{room_check, job_check}
 use Rattle.job.specs.declared.JobRead.{JobRead}
-use Rattle.job.specs.declared.JobRead.TheVariants.{Read, Refused}
 
 -- the lists that are lent to the reader
 pub record Lent : Type 0 where
@@ -49,7 +50,7 @@ job_lists bytes l =
           written (read_check bytes l) l.proposals (job_proposals One bytes ++ drop (job_members bytes) l.proposals);
     }
 
--- what each case of JobRead stands for
-abbrev pub job_read_of : JobRead → Answer JobValue
-job_read_of (Read arcs members note) = value (record { arcs = arcs; members = members; note = note })
-job_read_of (Refused r) = refusal r.number r.place
+-- what each case of the answer stands for
+abbrev pub job_read_of : Result JobRead Refusal → Answer JobValue
+job_read_of (Ok r) = value (record { arcs = r.arcs; members = r.members; note = r.note })
+job_read_of (Err r) = refusal (number_of r.reason) r.place

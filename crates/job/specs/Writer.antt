@@ -2,14 +2,12 @@
 use Rattle.std.specs.Prelude.{ℕ, List, length, ltb}
 use Rattle.game.specs.Network.{member_count}
 use Rattle.game.specs.Tree.{network, dead_end_tree}
-use Rattle.answer_forms.specs.Answer.{Check, Answer, value, refusal, fault, ◌then◌, answer}
+use Rattle.answer_forms.specs.Answer.{Check, Answer, fault, ◌then◌, answer}
 use Rattle.answers.specs.Checks.{plain_check, proposal_check}
 use Rattle.answers.specs.Level.{caps_check}
 use Rattle.job_bytes.specs.JobBytes.{Contents, plain_job}
 use Rattle.job_form.specs.Form.{longest_note}
 use Rattle.job_checks.specs.JobCheck.{space_check, job_output}
-use Rattle.job.specs.declared.writer.JobLength.{JobLength}
-use Rattle.job.specs.declared.writer.JobLength.TheVariants.{Length, Refused}
 
 -- the members of the tree: every dead end is marked
 abbrev pub members_of : Contents → ℕ
@@ -40,8 +38,3 @@ write_answer c out = answer (write_check c out) (length (plain_job c))
 
 unfoldable pub write_output : Contents → List ℕ → List ℕ
 write_output c out = job_output (write_check c out) (plain_job c) out
-
--- what each case of JobLength stands for
-abbrev pub job_length_of : JobLength → Answer ℕ
-job_length_of (Length n) = value n
-job_length_of (Refused r) = refusal r.number r.place

@@ -6,29 +6,27 @@ mod writer;
 ghost use Rattle.std.specs.Prelude.{◌≡◌};
 ghost use Rattle.job.specs.Reader.{lent, job_answer, job_lists, job_read_of};
 
-use answer_forms::{Checked, Refusal};
+use answer_forms::Refusal;
 use job_bytes::Version;
-pub use writer::{JobLength, job_length, write_job};
+pub use writer::{job_length, write_job};
 
-#[derive(Clone, Copy)]
-pub enum JobRead {
-    // The number of arcs and of members, and the length of the note.
-    Read {
-        arcs: usize,
-        members: usize,
-        note: usize,
-    },
-    Refused(Refusal),
+// What a job holds: the number of arcs and of members, and the length of the note.
+#[derive(Clone, Copy, Debug, PartialEq, Eq)]
+pub struct JobRead {
+    pub arcs: usize,
+    pub members: usize,
+    pub note: usize,
 }
 
 // Reads a job of version 1 into the front of the four lists; their other entries stay. 10, then the checks of the job.
+#[tactic(auto, unfolding(crate::specs::Reader::read_check, crate::specs::Reader::job_answer, crate::specs::Reader::job_lists))]
 pub fn read(
     bytes: &[u8],
     parents: &mut [u16],
     costs: &mut [u32],
     caps: &mut [u64],
     proposals: &mut [i64],
-) -> JobRead
+) -> Result<JobRead, Refusal>
     ensures result_value { job_read_of result
         ≡ job_answer bytes.now
         (lent parents.old costs.old caps.old proposals.old) }
@@ -36,18 +34,12 @@ pub fn read(
         ≡ job_lists bytes.now
         (lent parents.old costs.old caps.old proposals.old) }
 {
-    let room = job_checks::check_room(&[parents.len(), costs.len(), caps.len(), proposals.len()]);
-    let Checked::Accepted = room else {
-        return JobRead::Refused(answer_forms::refusal_of(room));
-    };
-    let job = job_checks::check_job(Version::One, bytes);
-    let Checked::Accepted = job else {
-        return JobRead::Refused(answer_forms::refusal_of(job));
-    };
+    job_checks::check_room(&[parents.len(), costs.len(), caps.len(), proposals.len()])?;
+    job_checks::check_job(Version::One, bytes)?;
     let t = job_checks::read_contents(Version::One, bytes, parents, costs, caps, proposals);
-    JobRead::Read {
+    Ok(JobRead {
         arcs: t.arcs,
         members: t.members,
         note: t.arc_offset,
-    }
+    })
 }

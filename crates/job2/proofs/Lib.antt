@@ -1,6 +1,6 @@
 mod Readable
 mod Parts
-mod Answered
+mod Roomy
 mod Convertible
 mod Converted
 pub mod Usable

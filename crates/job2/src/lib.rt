@@ -8,12 +8,13 @@ ghost use Rattle.std.specs.Prelude.{◌≡◌};
 ghost use Rattle.job.specs.Reader.{job_read_of};
 ghost use Rattle.job2.specs.Reader.{lent2, job2_answer, job2_lists};
 
-use answer_forms::Checked;
+use answer_forms::Refusal;
 pub use converter::{job_to_1, job_to_2};
 use job::JobRead;
 use job_bytes::Version;
 
 // Reads a job of version 2 into the front of the six lists; their other entries stay. 10, then the checks of the job.
+#[tactic(auto, unfolding(crate::specs::Reader::read2_check, crate::specs::Reader::job2_answer, crate::specs::Reader::job2_lists))]
 pub fn read(
     bytes: &[u8],
     parents: &mut [u16],
@@ -22,7 +23,7 @@ pub fn read(
     caps: &mut [u64],
     proposals: &mut [i64],
     floors: &mut [u64],
-) -> JobRead
+) -> Result<JobRead, Refusal>
     ensures result_value { job_read_of result
         ≡ job2_answer bytes.now
         (lent2 parents.old costs.old marks.old caps.old
@@ -33,27 +34,21 @@ pub fn read(
         (lent2 parents.old costs.old marks.old caps.old
         proposals.old floors.old) }
 {
-    let room = job_checks::check_room(&[
+    job_checks::check_room(&[
         parents.len(),
         costs.len(),
         marks.len(),
         caps.len(),
         proposals.len(),
         floors.len(),
-    ]);
-    let Checked::Accepted = room else {
-        return JobRead::Refused(answer_forms::refusal_of(room));
-    };
-    let job = job_checks::check_job(Version::Two, bytes);
-    let Checked::Accepted = job else {
-        return JobRead::Refused(answer_forms::refusal_of(job));
-    };
+    ])?;
+    job_checks::check_job(Version::Two, bytes)?;
     let t = job_checks::read_contents(Version::Two, bytes, parents, costs, caps, proposals);
-    job_bytes::read_u16(bytes, t.arc_offset + 2, 8, t.arcs, marks);
-    job_bytes::read_u64(bytes, 8, t.member_offset + 16, 24, t.members, floors);
-    JobRead::Read {
+    job_bytes::read_column(bytes, 2, t.arc_offset + 2, 8, t.arcs, marks);
+    job_bytes::read_column(bytes, 8, t.member_offset + 16, 24, t.members, floors);
+    Ok(JobRead {
         arcs: t.arcs,
         members: t.members,
         note: t.arc_offset,
-    }
+    })
 }

@@ -1,11 +1,11 @@
--- A loop that writes a list given entry by entry into the front of another list.
+-- Loops that write a list entry by entry over the front of another list; and columns that stand within the bytes.
 use Prim.Native.Nat.{ℕ, suc, ◌+◌, ◌*◌, ◌<◌, ◌≤◌}
-use mathlib.Core.Path.{◌≡◌, refl, sym, ap, ◌∙◌}
-use mathlib.Core.List.{List, ◌++◌}
+use mathlib.Core.Path.{◌≡◌, sym}
+use mathlib.Core.List.{List, [], ◌∷◌, ◌++◌}
 use native.Mathlib.Nat.{mul-le-mul_left}
 use native.Mathlib.Numerals.{add-one}
 use native.Mathlib.Omega.{arith}
-use lib.ListN.{length, get_or, set, drop, length-set}
+use lib.ListN.{length, get_or, set, drop}
 use lib.Seq.{drop-cons, set_at, append_snoc}
 use Rattle.basics.specs.Sum.{entries}
 use Rattle.basics.proofs.Lists.{entries_length}
@@ -18,32 +18,15 @@ column_within bytes width offset behind stride rows narrow h = λ i l. omega (ar
 
 module _ {A : Type 0} where
   -- one entry more
-  entries_on : (i : ℕ) (f : ℕ → A) (l : List A) (v : A) → i < length l → v ≡ f i
-      → set (entries i f ++ drop i l) i v ≡ entries (i + 1) f ++ drop (i + 1) l
+  pub front_more : (front : List A) (i : ℕ) (before : List A) (v : A) → length front ≡ i → i < length before
+      → set (front ++ drop i before) i v ≡ front ++ (v ∷ []) ++ drop (i + 1) before
+  front_more front i before v long h =
+      rw (add-one i, drop-cons before i v h, set_at front (get_or before i v) (drop (suc i) before) v i long)
+      (sym (append_snoc front v (drop (suc i) before)))
+
+  pub entries_more : (i : ℕ) (f : ℕ → A) (before : List A) (v : A) → i < length before → v ≡ f i
+      → set (entries i f ++ drop i before) i v ≡ entries (i + 1) f ++ drop (i + 1) before
   unfolding entries
-  entries_on i f l v h e =
-      rw (add-one i, drop-cons l i v h, set_at (entries i f) (get_or l i v) (drop (suc i) l) v i (entries_length f i), e)
-      (sym (append_snoc (entries i f) (f i) (drop (suc i) l)))
-
-  -- of n entries of f the first i stand in the front of what was `before`
-  pub record Front (n : ℕ) (f : ℕ → A) (before : List A) (i : ℕ) (list : List A) : Type 0 where
-    pub within : i ≤ n
-    pub long : length list ≡ length before
-    pub is : list ≡ entries i f ++ drop i before
-
-  module _ (n : ℕ) (f : ℕ → A) (before : List A) where
-    pub front_start : Front n f before 0 before
-    unfolding entries
-    front_start = record { within = omega arith; long = refl; is = refl }
-
-    module _ {i : ℕ} {list : List A} (s : Front n f before i list) where
-      pub front_on : i < n → n ≤ length before → (v : A) → v ≡ f i → Front n f before (i + 1) (set list i v)
-      front_on h room v e =
-          record {
-            within = omega arith;
-            long = length-set list i v ∙ s.long;
-            is = ap (λ (l : List A). set l i v) s.is ∙ entries_on i f before v (omega arith) e;
-          }
-
-      pub front_end : n ≤ i → list ≡ entries n f ++ drop n before
-      front_end h = let end : i ≡ n = omega (arith, s.within) in rw end at s.is
+  entries_more i f before v h e =
+      rw (front_more (entries i f) i before v (entries_length f i) h, e)
+      (rw add-one)

@@ -46,7 +46,8 @@ abbrev pub fields₃ : ℕ → ℕ → ℕ → List ℕ
 fields₃ offset_of_arcs offset_of_members arcs = fields₂ offset_of_arcs offset_of_members ++ in_bytes 2 arcs
 
 abbrev pub fields₄ : ℕ → ℕ → ℕ → ℕ → List ℕ
-fields₄ offset_of_arcs offset_of_members arcs members = fields₃ offset_of_arcs offset_of_members arcs ++ in_bytes 2 members
+fields₄ offset_of_arcs offset_of_members arcs members =
+    fields₃ offset_of_arcs offset_of_members arcs ++ in_bytes 2 members
 
 abbrev pub fields₅ : ℕ → ℕ → ℕ → ℕ → ℕ → List ℕ
 fields₅ offset_of_arcs offset_of_members arcs members version =

@@ -1,55 +1,57 @@
--- A loop that writes a number in bytes, the least significant first; and the parts of a job.
-use Prim.Native.Nat.{ℕ, suc, ◌+◌, ◌*◌, ◌-◌, ◌/◌, ◌%◌, ◌<◌, ◌≤◌}
-use mathlib.Core.Path.{◌≡◌, sym, ap, ◌∙◌}
-use mathlib.Core.List.{List, ◌∷◌, ◌++◌}
-use native.Mathlib.Nat.{sub-zero}
+-- A number in bytes, the least significant first, written byte by byte; and the parts of a job.
+use Prim.Native.Nat.{ℕ, zero, suc, ◌+◌, ◌*◌, ◌-◌, ◌/◌, ◌%◌, ◌^◌, ◌<◌, ◌≤◌}
+use mathlib.Core.Path.{◌≡◌, ap}
+use mathlib.Core.List.{List, [], ◌∷◌, ◌++◌}
 use native.Mathlib.Numerals.{add-one}
 use native.Mathlib.Omega.{arith}
 use lib.ListN.{length, get_or, set, drop, replicate, get_or-replicate}
 use lib.IntN.{ℤ, pos}
-use lib.Seq.{drop-cons}
+use Rattle.std.proofs.Math.Nat.{div-div-eq-div-mul, div-one, pow-suc, pow-succ'}
+use Rattle.std.proofs.Common.{append-nil}
+use Rattle.std.proofs.lemmas.Grind.{common_steps}
+use borrow.Rule.Slice.PartMut.{put_mid, mid_of}
 use Rattle.buffer.specs.Put.{Put}
-use Rattle.buffer.proofs.Pieces.{put_then, Copying, copy_start, copy_on, copy_end}
+use Rattle.buffer.proofs.Pieces.{put_then}
 use Rattle.job_bytes.specs.Numbers.{in_bytes}
 use Rattle.job_bytes.specs.Versions.{version_number}
 use Rattle.job_bytes.specs.declared.version.Version.{Version}
 use Rattle.job_bytes.specs.JobBytes.{Held, rows, member_row, arc_rows, member_rows, trailer, job_bytes}
+use Rattle.job_bytes.proofs.Entries.{front_more}
 use Rattle.job_bytes.proofs.Standing.{in_bytes_length}
 use Rattle.job_bytes.proofs.Parts.{arc_rows_length}
 
-module _ (before : List ℕ) (at width n : ℕ) where
-  -- the first i bytes are written, and `rest` has the others
-  pub record Putting (i rest : ℕ) (list : List ℕ) : Type 0 where
-    pub copied : Copying before at (in_bytes width n) i list
-    pub others : drop i (in_bytes width n) ≡ in_bytes (width - i) rest
+-- byte i of a number
+in_bytes_suc : (i n : ℕ) → in_bytes (suc i) n ≡ in_bytes i n ++ (n / 256 ^ i % 256 ∷ [])
+unfolding in_bytes
+in_bytes_suc zero n = rw div-one
+in_bytes_suc (suc i) n =
+    ap (λ (l : List ℕ). n % 256 ∷ l)
+    (rw (pow-succ' 256 i, ← div-div-eq-div-mul n 256 (256 ^ i)) (in_bytes_suc i (n / 256)))
 
-  module _ (room : at + width ≤ length before) where
-    fits : at + length (in_bytes width n) ≤ length before
-    fits = omega (arith, in_bytes_length width n)
+-- what is left of a number after one byte more
+pub left_more : (i n rest : ℕ) → rest ≡ n / 256 ^ i → rest / 256 ≡ n / 256 ^ (i + 1)
+left_more i n rest e = rw (e, add-one i, pow-suc 256 i) (div-div-eq-div-mul n (256 ^ i) 256)
 
-    pub putting_start : Putting 0 n before
-    putting_start = record { copied = copy_start before at (in_bytes width n) fits; others = rw sub-zero }
+-- one byte more
+pub bytes_more : (i n rest : ℕ) (before : List ℕ) → i < length before → rest ≡ n / 256 ^ i
+    → set (in_bytes i n ++ drop i before) i (rest % 256) ≡ in_bytes (i + 1) n ++ drop (i + 1) before
+bytes_more i n rest before h e =
+    rw (front_more (in_bytes i n) i before (rest % 256) (in_bytes_length i n) h, add-one i, in_bytes_suc i n, e)
 
-    module _ {i rest : ℕ} {list : List ℕ} (s : Putting i rest list) where
-      pub putting_on : i < width → Putting (i + 1) (rest / 256) (set list (at + i) (rest % 256))
-      unfolding in_bytes
-      putting_on h =
-          let within : i < length (in_bytes width n) = omega (arith, in_bytes_length width n) in
-          let more : width - i ≡ suc (width - (i + 1)) = omega arith in
-          let split : get_or (in_bytes width n) i 0 ∷ drop (suc i) (in_bytes width n)
-          ≡ rest % 256 ∷ in_bytes (width - (i + 1)) (rest / 256) =
-          sym (drop-cons (in_bytes width n) i 0 within) ∙ s.others ∙ ap (λ (k : ℕ). in_bytes k rest) more in
-          let byte : get_or (in_bytes width n) i 0 ≡ rest % 256 = cc in
-          let tail : drop (suc i) (in_bytes width n) ≡ in_bytes (width - (i + 1)) (rest / 256) = cc in
-          record {
-            copied = rw byte at (copy_on before at (in_bytes width n) fits s.copied within);
-            others = ap (λ (k : ℕ). drop k (in_bytes width n)) (add-one i) ∙ tail;
-          }
-
-      pub putting_end : width ≤ i → Put before at (in_bytes width n) list (at + width)
-      putting_end h =
-          rw (in_bytes_length width n) at
-          (copy_end before at (in_bytes width n) fits s.copied (omega (arith, in_bytes_length width n)))
+-- all bytes of a number are written over a part of a list
+pub bytes_put : (before : List ℕ) (at width n i : ℕ) (part : List ℕ) → at + width ≤ length before → i ≡ width
+    → part ≡ in_bytes i n ++ drop i (mid_of at (at + width - at) before)
+    → Put before at (in_bytes width n) (put_mid at (at + width - at) before part) (at + width)
+bytes_put before at width n i part room end e =
+    let long : length (in_bytes width n) ≡ width = in_bytes_length width n in
+    let none : drop width (mid_of at (at + width - at) before) ≡ [] = grind (arith, common_steps) in
+    let all : part ≡ in_bytes width n = rw (end, none, append-nil) at e in
+    record {
+      ends = omega arith;
+      fits = room;
+      same_length = grind (arith, common_steps);
+      written = grind (arith, common_steps);
+    }
 
 -- the first rows of so many members, with floors of 0
 abbrev pub floorless : Version → List ℕ → List ℤ → ℕ → List ℕ

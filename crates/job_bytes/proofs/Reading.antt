@@ -1,44 +1,36 @@
--- A loop that reads a little-endian number from its last byte to its first.
-use Prim.Native.Nat.{ℕ, suc, ◌+◌, ◌*◌, ◌-◌, ◌^◌, ◌<◌, ◌≤◌}
-use mathlib.Core.Path.{◌≡◌}
-use mathlib.Core.List.{List}
-use native.Mathlib.Nat.{pow-suc, pow-le-pow_right}
-use native.Mathlib.Omega.{arith}
-use Rattle.job_bytes.specs.Numbers.{byte_at, little_endian}
+-- A little-endian number, read from its last byte to its first.
+use Rattle.std.proofs.Common.{ℕ, zero, suc, ◌≡◌, ◌+◌, ◌*◌, ◌%◌, ◌^◌, ◌<◌, ◌≤◌, List, [], ◌∷◌, length, take, drop}
+use Rattle.std.proofs.Common.{reverse, fold, bit_or, arith, refl, ap, ◌∙◌, add-one, drop-cons}
+use Rattle.std.proofs.Math.Nat.{pow-le-pow_right, mod-eq_of_lt}
+use Rattle.std.proofs.lemmas.List.{reverse-append}
+use Rattle.std.proofs.lemmas.List.Sums.{fold-append}
+use Rattle.std.proofs.lemmas.Nat.{or_shifted}
+use Rattle.job_bytes.specs.Numbers.{byte_at, little_endian, Bytes}
+use Rattle.job_bytes.proofs.Standing.{number_small}
 
-module _ (bytes : List ℕ) (at width : ℕ) where
-  -- n is the number of the bytes from byte i on
-  pub record Reading (i n : ℕ) : Type 0 where
-    pub within : i ≤ width
-    pub is : n ≡ little_endian bytes (at + i) (width - i)
-    pub small : n < 256 ^ (width - i)
+-- a number with one byte more in front
+abbrev pub behind : ℕ → ℕ → ℕ
+behind n byte = bit_or (n * 2 ^ 8 % 2 ^ 64) byte
 
-  pub reading_start : Reading width 0
+module _ (bytes : List ℕ) (small : Bytes bytes) where
+  behind_sum : (n width byte : ℕ) → n < 256 ^ width → width ≤ 7 → byte < 256 → behind n byte ≡ byte + 256 * n
+  behind_sum n width byte h w b =
+      let most = pow-le-pow_right {n = 256} (omega arith) {i = width} {j = 7} w in
+      let whole : n * 2 ^ 8 % 2 ^ 64 ≡ n * 2 ^ 8 = mod-eq_of_lt (omega (arith, h, most)) in
+      rw (whole, or_shifted n 8 byte b) (omega arith)
+
+  pub read_back : (width at : ℕ) → width ≤ 8 → at + width ≤ length bytes
+      → fold behind 0 (reverse (take width (drop at bytes))) ≡ little_endian bytes at width
   unfolding little_endian
-  reading_start =
-      let none : width - width ≡ 0 = omega arith in
-      record { within = omega arith; is = rw none; small = rw none (omega arith) }
-
-  module _ {i n : ℕ} (s : Reading i n) where
-    -- there is room for one byte more
-    pub reading_room : 0 < i → width ≤ 8 → n < 72057594037927936
-    reading_room h w =
-        omega (arith, s.small, pow-le-pow_right {n = 256} (omega arith) {i = width - i} {j = 7} (omega arith))
-
-    pub reading_on : 0 < i → (b : ℕ) → b ≡ byte_at bytes (at + (i - 1)) → b < 256 → Reading (i - 1) (n * 256 + b)
-    unfolding little_endian
-    reading_on h b e small =
-        let longer : width - (i - 1) ≡ suc (width - i) = omega (arith, s.within) in
-        let next : at + (i - 1) + 1 ≡ at + i = omega arith in
-        record {
-          within = omega (arith, s.within);
-          is = rw (longer, next) (omega (arith, e, s.is));
-          small = rw (longer, pow-suc 256 (width - i)) (omega (arith, s.small));
-        }
-
-    pub reading_end : i ≤ 0 → (n ≡ little_endian bytes at width) × (n < 256 ^ width)
-    reading_end h =
-        let end : i ≡ 0 = omega arith in
-        let here : at + i ≡ at = omega arith in
-        let all : width - i ≡ width = omega arith in
-        (rw (here, all) at s.is, rw all at s.small)
+  read_back zero at w room = refl
+  read_back (suc width) at w room =
+      let byte = byte_at bytes at in
+      let more = take width (drop (suc at) bytes) in
+      let first : drop at bytes ≡ byte ∷ drop (suc at) bytes = drop-cons bytes at 0 (omega arith) in
+      let next = number_small bytes small width (at + 1) in
+      ap (λ (l : List ℕ). fold behind 0 (reverse (take (suc width) l))) first
+      ∙ ap (λ (l : List ℕ). fold behind 0 l) (reverse-append (byte ∷ []) more)
+      ∙ fold-append behind 0 (reverse more) (byte ∷ [])
+      ∙ ap (λ (n : ℕ). behind n byte) (rw add-one at (read_back width (at + 1) (omega arith) (omega arith)))
+      ∙ behind_sum _ width byte (rw add-one at next) (omega arith) (small at)
+      ∙ rw add-one

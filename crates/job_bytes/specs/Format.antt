@@ -86,8 +86,8 @@ job_floors v bytes = entries (job_members bytes) (floor_at v bytes (member_offse
 -- all that a job holds, and what jobs of both versions do
 abbrev pub job_held : Version → List ℕ → Held
 job_held v bytes =
-    held (job_note bytes) (job_parents bytes) (job_fillers bytes) (job_costs bytes) (job_caps v bytes) (job_proposals v bytes)
-    (job_floors v bytes)
+    held (job_note bytes) (job_parents bytes) (job_fillers bytes) (job_costs bytes) (job_caps v bytes)
+    (job_proposals v bytes) (job_floors v bytes)
 
 abbrev pub job_contents : Version → List ℕ → Contents
 job_contents v bytes =

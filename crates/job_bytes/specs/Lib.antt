@@ -3,3 +3,4 @@ pub mod Versions
 pub mod JobBytes
 pub mod Format
 pub mod Inner
+pub mod Lists

@@ -2,14 +2,16 @@
 #![tactic(auto)]
 
 mod columns;
+mod lists;
 mod number;
 mod put_parts;
 mod put_rows;
 mod trailer;
 mod version;
 
-pub use columns::{read_i64, read_u16, read_u32, read_u64};
+pub use columns::{Entry, read_column};
+pub use lists::Lists;
 pub use number::number_at;
 pub use put_parts::{put_job, put_plain};
-pub use trailer::{Trailer, read_trailer};
-pub use version::{Version, floor_width, version_number};
+pub use trailer::Trailer;
+pub use version::Version;

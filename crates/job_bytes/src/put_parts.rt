@@ -3,13 +3,15 @@ ghost use Rattle.std.specs.Prelude.{◌≡◌, ◌+◌, ◌*◌, ◌≤◌, leng
 ghost use Rattle.buffer.specs.Put.{Put};
 ghost use Rattle.job_bytes.specs.Versions.{version_number, member_width};
 ghost use Rattle.limits.specs.Limits.{most_arcs};
-ghost use Rattle.job_bytes.specs.JobBytes.{contents, filled_with, plain, arc_rows, member_rows, trailer};
-ghost use Rattle.job_bytes.specs.JobBytes.{job_bytes};
+ghost use Rattle.job_bytes.specs.JobBytes.{filled_with, plain, arc_rows, member_rows, trailer, job_bytes};
 ghost use Rattle.job_bytes.specs.declared.version.Version.TheVariants.{One};
 ghost use Rattle.job_bytes.specs.Inner.{Matched};
+ghost use Rattle.job_bytes.specs.Lists.{contents_of};
 
+use crate::lists::Lists;
 use crate::put_rows::{put_arc, put_member, put_number};
-use crate::version::{Version, version_number};
+use crate::trailer::Trailer;
+use crate::version::Version;
 use limits::MOST_ARCS;
 
 // A row an arc.
@@ -22,10 +24,8 @@ fn put_arcs(out: &mut [u8], at: usize, parents: &[u16], fillers: &[u16], costs: 
     ensures value { result ≡ at + 8 * length parents.now }
 {
     let mut next = at;
-    let mut i = 0;
-    while i < parents.len() {
+    for i in 0..parents.len() {
         next = put_arc(out, next, parents[i], fillers[i], costs[i]);
-        i += 1;
     }
     next
 }
@@ -46,95 +46,58 @@ fn put_members(
     ensures value { result ≡ at + member_width version * length caps.now }
 {
     let mut next = at;
-    let mut j = 0;
-    while j < caps.len() {
+    for j in 0..caps.len() {
         next = put_member(out, next, version, caps[j], proposals[j], 0);
-        j += 1;
     }
     next
 }
 
-fn put_trailer(
-    out: &mut [u8],
-    at: usize,
-    arc_offset: usize,
-    member_offset: usize,
-    arcs: usize,
-    members: usize,
-    version: Version,
-) -> usize
+fn put_trailer(out: &mut [u8], at: usize, fields: Trailer, version: Version) -> usize
     requires { at + 16 ≤ length out.old }
     ensures { Put out.old at
-        (trailer arc_offset member_offset arcs members (version_number version)) out.new result }
+        (trailer fields.arc_offset fields.member_offset fields.arcs fields.members
+        (version_number version))
+        out.new result }
 {
-    let a = put_number(out, at, 4, arc_offset as u64);
-    let b = put_number(out, a, 4, member_offset as u64);
-    let c = put_number(out, b, 2, arcs as u64);
-    let d = put_number(out, c, 2, members as u64);
-    let e = put_number(out, d, 2, version_number(version));
+    let a = put_number(out, at, 4, fields.arc_offset as u64);
+    let b = put_number(out, a, 4, fields.member_offset as u64);
+    let c = put_number(out, b, 2, fields.arcs as u64);
+    let d = put_number(out, c, 2, fields.members as u64);
+    let e = put_number(out, d, 2, version.number());
     buffer::put(out, e, &[0x54, 0x4A])
 }
 
 // The job with these contents and fillers, from the first byte on; its floors are 0.
-pub fn put_job(
-    out: &mut [u8],
-    version: Version,
-    note: &[u8],
-    parents: &[u16],
-    fillers: &[u16],
-    costs: &[u32],
-    caps: &[u64],
-    proposals: &[i64],
-) -> usize
-    requires cases { Matched parents.now fillers.now costs.now caps.now proposals.now }
-    requires caps_in_bounds { length note.now + 8 * length parents.now + member_width version * length caps.now + 16
-        ≤ length out.old }
+pub fn put_job(out: &mut [u8], version: Version, lists: &Lists<'_>, fillers: &[u16]) -> usize
+    requires cases { Matched lists.now.parents.now fillers.now lists.now.costs.now lists.now.caps.now
+        lists.now.proposals.now }
+    requires caps_in_bounds { length lists.now.note.now + 8 * length lists.now.parents.now
+        + member_width version * length lists.now.caps.now + 16 ≤ length out.old }
     ensures { Put out.old 0
-        (job_bytes version (filled_with fillers.now (contents note.now parents.now
-        costs.now caps.now proposals.now))) out.new result }
+        (job_bytes version (filled_with fillers.now (contents_of lists.now))) out.new result }
 {
-    let arcs_at = buffer::put(out, 0, note);
-    let members_at = put_arcs(out, arcs_at, parents, fillers, costs);
-    let end = put_members(out, members_at, version, caps, proposals);
-    put_trailer(
-        out,
-        end,
-        arcs_at,
-        members_at,
-        parents.len(),
-        caps.len(),
-        version,
-    )
+    let arc_offset = buffer::put(out, 0, lists.note);
+    let member_offset = put_arcs(out, arc_offset, lists.parents, fillers, lists.costs);
+    let end = put_members(out, member_offset, version, lists.caps, lists.proposals);
+    let fields = Trailer {
+        arc_offset,
+        member_offset,
+        arcs: lists.parents.len(),
+        members: lists.caps.len(),
+    };
+    put_trailer(out, end, fields, version)
 }
 
 // The job of version 1 with these contents, from the first byte on.
-pub fn put_plain(
-    out: &mut [u8],
-    note: &[u8],
-    parents: &[u16],
-    costs: &[u32],
-    caps: &[u64],
-    proposals: &[i64],
-) -> usize
-    requires parents_len_bound { length parents.now ≤ most_arcs }
-    requires costs_len { length costs.now ≡ length parents.now }
-    requires proposals_len { length proposals.now ≡ length caps.now }
-    requires caps_in_bounds { length note.now + 8 * length parents.now + member_width One * length caps.now + 16
-        ≤ length out.old }
-    ensures { Put out.old 0
-        (job_bytes One (plain (contents note.now parents.now costs.now
-        caps.now proposals.now))) out.new result }
+pub fn put_plain(out: &mut [u8], lists: &Lists<'_>) -> usize
+    requires parents_len_bound { length lists.now.parents.now ≤ most_arcs }
+    requires costs_len { length lists.now.costs.now ≡ length lists.now.parents.now }
+    requires proposals_len { length lists.now.proposals.now ≡ length lists.now.caps.now }
+    requires caps_in_bounds { length lists.now.note.now + 8 * length lists.now.parents.now
+        + member_width One * length lists.now.caps.now + 16 ≤ length out.old }
+    ensures { Put out.old 0 (job_bytes One (plain (contents_of lists.now))) out.new result }
 {
-    let n = parents.len();
+    let n = lists.parents.len();
     let fillers = [0u16; MOST_ARCS];
-    put_job(
-        out,
-        Version::One,
-        note,
-        parents,
-        &fillers[0..n],
-        costs,
-        caps,
-        proposals,
-    )
+    put_job(out, Version::One, lists, &fillers[..n])
 }

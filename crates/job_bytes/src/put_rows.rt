@@ -6,7 +6,7 @@ ghost use Rattle.job_bytes.specs.Numbers.{in_bytes};
 ghost use Rattle.job_bytes.specs.Versions.{member_width};
 ghost use Rattle.job_bytes.specs.JobBytes.{arc_row, member_row};
 
-use crate::version::{Version, floor_width};
+use crate::version::Version;
 
 // A number in `width` bytes.
 pub fn put_number(out: &mut [u8], at: usize, width: usize, n: u64) -> usize
@@ -15,11 +15,9 @@ pub fn put_number(out: &mut [u8], at: usize, width: usize, n: u64) -> usize
     ensures value { result ≡ at + width }
 {
     let mut rest = n;
-    let mut i = 0;
-    while i < width {
-        out[at + i] = (rest % 256) as u8;
-        rest = rest / 256;
-        i += 1;
+    for byte in &mut out[at..at + width] {
+        *byte = (rest % 256) as u8;
+        rest /= 256;
     }
     at + width
 }
@@ -29,9 +27,9 @@ pub fn put_arc(out: &mut [u8], at: usize, parent: u16, filler: u16, cost: u32) -
     ensures put { Put out.old at (arc_row parent filler cost) out.new result }
     ensures value { result ≡ at + 8 }
 {
-    let a = put_number(out, at, 2, parent as u64);
-    let b = put_number(out, a, 2, filler as u64);
-    put_number(out, b, 4, cost as u64)
+    let a = put_number(out, at, 2, u64::from(parent));
+    let b = put_number(out, a, 2, u64::from(filler));
+    put_number(out, b, 4, u64::from(cost))
 }
 
 pub fn put_member(
@@ -48,5 +46,5 @@ pub fn put_member(
 {
     let a = put_number(out, at, 8, cap);
     let b = put_number(out, a, 8, numbers::bits_of(proposal));
-    put_number(out, b, floor_width(version), floor)
+    put_number(out, b, version.floor_width(), floor)
 }

@@ -10,18 +10,14 @@ use lib.IntN.{ℤ}
 use Rattle.basics.specs.Sum.{entries}
 use Rattle.game.specs.Network.{member_count}
 use Rattle.game.specs.Tree.{Tree, network, dead_end_tree}
-use Rattle.answer_forms.specs.Answer.{Check, accepted, refused, fault, answer, refusal}
-use Rattle.answer_forms.proofs.Composed.{then_nothing, then_same}
+use Rattle.answer_forms.specs.Answer.{Check, accepted, refused, fault, answer, value, refusal}
+use Rattle.answer_forms.proofs.Composed.{then_nothing, then_same, answered, refused_answer}
 use Rattle.limits.specs.Limits.{most_arcs}
 use Rattle.answers.specs.Checks.{tree_check, plain_check, output_check}
 use Rattle.answers.specs.Members.{member_count_answer}
 use Rattle.answers.specs.DeadEnds.{dead_ends_answer}
 use Rattle.answers.proofs.Limits.{tree_limits}
 use Rattle.answers.proofs.DeadEnds.{plain_check_lem}
-use Rattle.answer_forms.specs.declared.Refusal.{Refusal}
-use Rattle.engine.specs.Outcomes.{member_count_of}
-use Rattle.engine.specs.declared.members.MemberCount.{MemberCount}
-use Rattle.engine.specs.declared.members.MemberCount.TheVariants.{Members, Refused as NoMembers}
 use Rattle.job_bytes.specs.Versions.{floor_width, member_width}
 use Rattle.job_bytes.specs.Format.{member_offset, job_members}
 use Rattle.job_bytes.specs.declared.version.Version.{Version}
@@ -29,18 +25,6 @@ use Rattle.job_bytes.specs.Inner.{Within}
 use Rattle.job_bytes.proofs.Entries.{column_within}
 use Rattle.job_form.specs.Inner.{Layout}
 use Rattle.job_checks.specs.JobCheck.{shares_of}
-use Rattle.job_checks.specs.Inner.{tree_found}
-
-found_by : (check : Check) (count : MemberCount) (n : ℕ) → member_count_of count ≡ answer check n
-    → tree_found count ≡ check
-found_by accepted (Members m) n e = refl
-found_by accepted (NoMembers r) n e = absurd (let z : ◌≡◌ {A = ℕ} 0 1 = cc in omega arith)
-found_by (refused number place) (Members m) n e = absurd (let z : ◌≡◌ {A = ℕ} 0 1 = cc in omega arith)
-found_by (refused number place) (NoMembers r) n e = cc
-
-counted_by : (check : Check) (m n : ℕ) → member_count_of (Members m) ≡ answer check n → m ≡ n
-counted_by accepted m n e = cc
-counted_by (refused number place) m n e = absurd (let z : ◌≡◌ {A = ℕ} 0 1 = cc in omega arith)
 
 -- the dead ends marked in a list that is long enough for every accepted one: the answer is that of the tree with these
 -- marks
@@ -57,17 +41,16 @@ dead_ends_counted ps cs out sized =
         let same : length out ≡ length ps = omega (arith, sized, few) in
         ap (λ (b : Bool). fault (not b) 8 0) (eq-eqb (length out) (length ps) same)
 
-module _ (count : MemberCount) (t : Tree) (is : member_count_of count ≡ member_count_answer t) where
-  pub tree_is : tree_found count ≡ tree_check t
+module _ (t : Tree) where
+  pub tree_refused : {number place : ℕ} → refusal number place ≡ member_count_answer t
+      → tree_check t ≡ refused number place
   unfolding member_count_answer
-  tree_is = found_by (tree_check t) count (member_count (network t)) is
+  tree_refused e = refused_answer (tree_check t) (member_count (network t)) e
 
-  pub tree_refused : {r : Refusal} → count ≡ NoMembers r → tree_check t ≡ refused r.number r.place
-  tree_refused e = sym tree_is ∙ ap tree_found e
-
-  pub tree_counted : {n : ℕ} → count ≡ Members n → (tree_check t ≡ accepted) × (n ≡ member_count (network t))
+  pub tree_counted : {n : ℕ} → value n ≡ member_count_answer t
+      → (tree_check t ≡ accepted) × (n ≡ member_count (network t))
   unfolding member_count_answer
-  tree_counted {n} e = (sym tree_is ∙ ap tree_found e, counted_by (tree_check t) n (member_count (network t)) (rw e at is))
+  tree_counted {n} e = answered (tree_check t) (member_count (network t)) n (sym e)
 
 pub shares_by : {found : Check} {members rows : ℕ} (f h : ℕ → ℕ) (g : ℕ → ℤ) (n : ℕ) → n ≡ members → n ≡ rows
     → found ≡ shares_of n (entries n f) (entries n g) (entries n h)
@@ -82,7 +65,7 @@ too_many t h =
     rw (some_arc, lt-ltb most_arcs (length t.parents) h)
 
 -- the member rows stand within the bytes
-pub rows_within : (v : Version) (bytes : List ℕ) {offset members : ℕ} → Layout v bytes → offset ≡ member_offset bytes
+rows_within : (v : Version) (bytes : List ℕ) {offset members : ℕ} → Layout v bytes → offset ≡ member_offset bytes
     → members ≡ job_members bytes → offset + member_width v * members ≤ length bytes
 rows_within v bytes l at n = rw (at, n) (omega (arith, l.members_end))
 

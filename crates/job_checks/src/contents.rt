@@ -5,7 +5,7 @@ ghost use Rattle.job_bytes.specs.Inner.{TrailerOf};
 ghost use Rattle.job_form.specs.Inner.{Layout};
 ghost use Rattle.job_checks.specs.Inner.{Room};
 
-use job_bytes::{Trailer, Version, floor_width};
+use job_bytes::{Trailer, Version, read_column};
 
 pub fn read_contents(
     version: Version,
@@ -29,11 +29,11 @@ pub fn read_contents(
         ≡ job_proposals version bytes.now
         ++ drop (job_members bytes.now) proposals.old }
 {
-    let t = job_bytes::read_trailer(bytes);
-    let width = 16 + floor_width(version);
-    job_bytes::read_u16(bytes, t.arc_offset, 8, t.arcs, parents);
-    job_bytes::read_u32(bytes, t.arc_offset + 4, 8, t.arcs, costs);
-    job_bytes::read_u64(bytes, 8, t.member_offset, width, t.members, caps);
-    job_bytes::read_i64(bytes, t.member_offset + 8, width, t.members, proposals);
+    let t = Trailer::read(bytes);
+    let width = 16 + version.floor_width();
+    read_column(bytes, 2, t.arc_offset, 8, t.arcs, parents);
+    read_column(bytes, 4, t.arc_offset + 4, 8, t.arcs, costs);
+    read_column(bytes, 8, t.member_offset, width, t.members, caps);
+    read_column(bytes, 8, t.member_offset + 8, width, t.members, proposals);
     t
 }

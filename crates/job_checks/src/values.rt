@@ -1,4 +1,5 @@
 // The values of a job: the engine's checks on what the rows hold.
+// Each check's answer is opened by let else, the form that document 01 names for the reader.
 ghost use Rattle.std.specs.Prelude.{◌≡◌, not, ◌+◌, ◌*◌, ◌≤◌, length, eqb};
 ghost use Rattle.basics.specs.Sum.{entries};
 ghost use Rattle.limits.specs.Limits.{most_arcs};
@@ -7,38 +8,46 @@ ghost use Rattle.answer_forms.specs.Answer.{accepted, fault, ◌then◌};
 ghost use Rattle.answers.specs.Members.{member_count_answer};
 ghost use Rattle.answers.specs.Checks.{proposal_check};
 ghost use Rattle.answers.specs.Level.{caps_check, floors_check, limits_check};
-ghost use Rattle.answer_forms.specs.Checked.{check_of};
-ghost use Rattle.engine.specs.Outcomes.{member_count_of};
+ghost use Rattle.answer_forms.specs.Checked.{check_of, answer_of};
 ghost use Rattle.job_bytes.specs.Versions.{member_width};
 ghost use Rattle.job_bytes.specs.Format.{parent_at, filler_at, cost_at, cap_at, proposal_at, floor_at};
 ghost use Rattle.job_bytes.specs.declared.version.Version.TheVariants.{Two};
 ghost use Rattle.job_form.specs.Inner.{Layout};
 ghost use Rattle.job_checks.specs.JobCheck.{marks_of, shares_of, values_check};
 
-use crate::members::{dead_end_members, tree_found};
-use answer_forms::{Checked, Refusal, refusals, refuse};
-use engine::MemberCount;
-use job_bytes::{Version, floor_width};
+use crate::members::dead_end_members;
+use answer_forms::{Reason, Refusal};
+use job_bytes::{Trailer, Version, read_column};
 use limits::MOST_ARCS;
 
 // The members of the tree with these parents and costs, whose marks are the fillers of the arc rows at an offset.
-fn marked_members(bytes: &[u8], offset: usize, parents: &[u16], costs: &[u32]) -> MemberCount
+fn marked_members(
+    bytes: &[u8],
+    offset: usize,
+    parents: &[u16],
+    costs: &[u32],
+) -> Result<usize, Refusal>
     requires parents_in_bounds { offset + 8 * length parents.now ≤ length bytes.now }
     requires parents_len_bound { length parents.now ≤ most_arcs }
-    ensures { member_count_of result
+    ensures { answer_of result
         ≡ member_count_answer (tree_of parents.now costs.now
         (entries (length parents.now) (filler_at bytes.now offset))) }
 {
     let n = parents.len();
     let mut marks = [0u16; MOST_ARCS];
-    job_bytes::read_u16(bytes, offset + 2, 8, n, &mut marks);
+    read_column(bytes, 2, offset + 2, 8, n, &mut marks);
     engine::count_members(parents, costs, &marks[0..n])
 }
 
 // The members of the tree in the arc rows at an offset. With too many rows nothing is read: 1.
-fn count_members(version: Version, bytes: &[u8], offset: usize, arcs: usize) -> MemberCount
+fn count_members(
+    version: Version,
+    bytes: &[u8],
+    offset: usize,
+    arcs: usize,
+) -> Result<usize, Refusal>
     requires { offset + 8 * arcs ≤ length bytes.now }
-    ensures { member_count_of result
+    ensures { answer_of result
         ≡ member_count_answer (tree_of
         (entries arcs (parent_at bytes.now offset))
         (entries arcs (cost_at bytes.now offset))
@@ -46,15 +55,12 @@ fn count_members(version: Version, bytes: &[u8], offset: usize, arcs: usize) -> 
         (entries arcs (filler_at bytes.now offset)))) }
 {
     if MOST_ARCS < arcs {
-        return MemberCount::Refused(Refusal {
-            number: refusals::ARC_COUNT,
-            place: 0,
-        });
+        return Err(Reason::ArcCount.at(0));
     }
     let mut parents = [0u16; MOST_ARCS];
     let mut costs = [0u32; MOST_ARCS];
-    job_bytes::read_u16(bytes, offset, 8, arcs, &mut parents);
-    job_bytes::read_u32(bytes, offset + 4, 8, arcs, &mut costs);
+    read_column(bytes, 2, offset, 8, arcs, &mut parents);
+    read_column(bytes, 4, offset + 4, 8, arcs, &mut costs);
     match version {
         Version::One => dead_end_members(&parents[0..arcs], &costs[0..arcs]),
         Version::Two => marked_members(bytes, offset, &parents[0..arcs], &costs[0..arcs]),
@@ -62,38 +68,43 @@ fn count_members(version: Version, bytes: &[u8], offset: usize, arcs: usize) -> 
 }
 
 // 15.
-fn check_count(rows: usize, members: usize) -> Checked
+fn check_count(rows: usize, members: usize) -> Result<(), Refusal>
     ensures { check_of result ≡ fault (not (eqb rows members)) 15 0 }
 {
     if rows == members {
-        Checked::Accepted
+        Ok(())
     } else {
-        refuse(refusals::JOB_MEMBERS, 0)
+        Err(Reason::JobMembers.at(0))
     }
 }
 
 // 7 on the proposals of the member rows at an offset.
-fn check_proposals(version: Version, bytes: &[u8], offset: usize, members: usize) -> Checked
+fn check_proposals(
+    version: Version,
+    bytes: &[u8],
+    offset: usize,
+    members: usize,
+) -> Result<(), Refusal>
     requires members_in_bounds { offset + member_width version * members ≤ length bytes.now }
     requires members_le_most_arcs { members ≤ most_arcs }
     ensures { check_of result
         ≡ proposal_check members (entries members (proposal_at version bytes.now offset)) }
 {
-    let width = 16 + floor_width(version);
+    let width = 16 + version.floor_width();
     let mut proposals = [0i64; MOST_ARCS];
-    job_bytes::read_i64(bytes, offset + 8, width, members, &mut proposals);
+    read_column(bytes, 8, offset + 8, width, members, &mut proposals);
     engine::check_proposal(members, &proposals[0..members])
 }
 
 // 7 on these caps, then on the floors of version 2's member rows at an offset, and 27.
-fn check_limits(bytes: &[u8], offset: usize, members: usize, caps: &[u64]) -> Checked
+fn check_limits(bytes: &[u8], offset: usize, members: usize, caps: &[u64]) -> Result<(), Refusal>
     requires members_in_bounds { offset + 24 * members ≤ length bytes.now }
     requires members_le_most_arcs { members ≤ most_arcs }
     ensures { check_of result
         ≡ limits_check members caps.now (entries members (floor_at Two bytes.now offset)) }
 {
     let mut floors = [0u64; MOST_ARCS];
-    job_bytes::read_u64(bytes, 8, offset + 16, 24, members, &mut floors);
+    read_column(bytes, 8, offset + 16, 24, members, &mut floors);
     engine::check_limits(members, caps, &floors[0..members])
 }
 
@@ -104,7 +115,7 @@ fn check_floors(
     offset: usize,
     members: usize,
     caps: &[u64],
-) -> Checked
+) -> Result<(), Refusal>
     requires members_in_bounds { offset + member_width version * members ≤ length bytes.now }
     requires members_le_most_arcs { members ≤ most_arcs }
     requires caps_value { caps_check members caps.now ≡ accepted }
@@ -114,13 +125,18 @@ fn check_floors(
         (entries members (floor_at version bytes.now offset))) }
 {
     match version {
-        Version::One => Checked::Accepted,
+        Version::One => Ok(()),
         Version::Two => check_limits(bytes, offset, members, caps),
     }
 }
 
 // 7 on caps, on proposals and on floors, then 27, of the member rows at an offset.
-fn check_shares(version: Version, bytes: &[u8], offset: usize, members: usize) -> Checked
+fn check_shares(
+    version: Version,
+    bytes: &[u8],
+    offset: usize,
+    members: usize,
+) -> Result<(), Refusal>
     requires members_in_bounds { offset + member_width version * members ≤ length bytes.now }
     requires members_le_most_arcs { members ≤ most_arcs }
     ensures { check_of result
@@ -129,32 +145,30 @@ fn check_shares(version: Version, bytes: &[u8], offset: usize, members: usize) -
         (entries members (proposal_at version bytes.now offset))
         (entries members (floor_at version bytes.now offset)) }
 {
-    let width = 16 + floor_width(version);
+    let width = 16 + version.floor_width();
     let mut caps = [0u64; MOST_ARCS];
-    job_bytes::read_u64(bytes, 8, offset, width, members, &mut caps);
+    read_column(bytes, 8, offset, width, members, &mut caps);
     let upper = engine::check_caps(members, &caps[0..members]);
-    let Checked::Accepted = upper else {
+    let Ok(()) = upper else {
         return upper;
     };
     let shares = check_proposals(version, bytes, offset, members);
-    let Checked::Accepted = shares else {
+    let Ok(()) = shares else {
         return shares;
     };
     check_floors(version, bytes, offset, members, &caps[0..members])
 }
 
 // 1, 3, 4, 17 and 18, then 15, then 7 and 27.
-pub fn check_values(version: Version, bytes: &[u8]) -> Checked
+#[tactic(auto, unfolding(crate::specs::JobCheck::values_check))]
+pub fn check_values(version: Version, bytes: &[u8]) -> Result<(), Refusal>
     requires { Layout version bytes.now }
     ensures { check_of result ≡ values_check version bytes.now }
 {
-    let t = job_bytes::read_trailer(bytes);
-    let count = count_members(version, bytes, t.arc_offset, t.arcs);
-    let MemberCount::Members(members) = count else {
-        return tree_found(count);
-    };
+    let t = Trailer::read(bytes);
+    let members = count_members(version, bytes, t.arc_offset, t.arcs)?;
     let rows = check_count(t.members, members);
-    let Checked::Accepted = rows else {
+    let Ok(()) = rows else {
         return rows;
     };
     check_shares(version, bytes, t.member_offset, members)

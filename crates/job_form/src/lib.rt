@@ -1,4 +1,5 @@
 // The form of a job in a version: its size, its signature, its layout, and its fillers, which in version 2 are marks.
+// Each check's answer is opened by let else, the form that document 01 names for the reader.
 #![tactic(auto)]
 
 ghost use Rattle.std.specs.Prelude.{◌≡◌, not, ◌+◌, ◌*◌, ◌≤◌, length, eqb, ltb};
@@ -8,14 +9,15 @@ ghost use Rattle.job_form.specs.Inner.{Layout};
 ghost use Rattle.job_form.specs.Form.{most_bytes_of, size_check, signature_check, layout_check, form_check};
 ghost use Rattle.job_form.specs.Form.{filler_check, fillers_from, fillers_check};
 
-use answer_forms::{Checked, refusals, refuse};
-use job_bytes::{Version, floor_width, number_at, version_number};
+use answer_forms::{Reason, Refusal};
+use job_bytes::{Trailer, Version, number_at};
 
 const FEWEST_BYTES: usize = 16;
 
 pub const LONGEST_NOTE: usize = 255;
 
 // The length of the longest job.
+#[tactic(auto, unfolding(crate::specs::Form::most_bytes_of))]
 fn most_bytes(version: Version) -> usize
     ensures { result ≡ most_bytes_of version }
 {
@@ -26,92 +28,85 @@ fn most_bytes(version: Version) -> usize
 }
 
 // 11.
-fn check_size(version: Version, size: usize) -> Checked
+fn check_size(version: Version, size: usize) -> Result<(), Refusal>
     ensures { check_of result ≡ size_check version size }
 {
-    if size < FEWEST_BYTES {
-        return refuse(refusals::JOB_SIZE, 0);
+    if size < FEWEST_BYTES || most_bytes(version) < size {
+        return Err(Reason::JobSize.at(0));
     }
-    if most_bytes(version) < size {
-        return refuse(refusals::JOB_SIZE, 0);
-    }
-    Checked::Accepted
+    Ok(())
 }
 
 // 12: the version and the closing bytes.
-fn check_signature(version: Version, bytes: &[u8]) -> Checked
+#[tactic(auto, unfolding(job_bytes::specs::Format::version))]
+fn check_signature(version: Version, bytes: &[u8]) -> Result<(), Refusal>
     requires { 16 ≤ length bytes.now }
     ensures { check_of result ≡ signature_check version bytes.now }
 {
     let at = bytes.len() - 16;
-    if number_at(bytes, at + 12, 2) != version_number(version) {
-        return refuse(refusals::JOB_SIGNATURE, 0);
+    let number = number_at(bytes, at + 12, 2);
+    if number != version.number() || bytes[at + 14] != 0x54 || bytes[at + 15] != 0x4A {
+        return Err(Reason::JobSignature.at(0));
     }
-    if bytes[at + 14] != 0x54 {
-        return refuse(refusals::JOB_SIGNATURE, 0);
-    }
-    if bytes[at + 15] != 0x4A {
-        return refuse(refusals::JOB_SIGNATURE, 0);
-    }
-    Checked::Accepted
+    Ok(())
 }
 
 // 13: note, rows and trailer meet and end exactly.
-fn check_layout(version: Version, bytes: &[u8]) -> Checked
+fn check_layout(version: Version, bytes: &[u8]) -> Result<(), Refusal>
     requires { 16 ≤ length bytes.now }
     ensures { check_of result ≡ layout_check version bytes.now }
 {
-    let t = job_bytes::read_trailer(bytes);
-    if LONGEST_NOTE < t.arc_offset {
-        return refuse(refusals::JOB_LAYOUT, 0);
+    let t = Trailer::read(bytes);
+    let rows_end = t.member_offset + (16 + version.floor_width()) * t.members;
+    if LONGEST_NOTE < t.arc_offset
+        || t.member_offset != t.arc_offset + 8 * t.arcs
+        || rows_end + 16 != bytes.len()
+    {
+        return Err(Reason::JobLayout.at(0));
     }
-    if t.member_offset != t.arc_offset + 8 * t.arcs {
-        return refuse(refusals::JOB_LAYOUT, 0);
-    }
-    if t.member_offset + (16 + floor_width(version)) * t.members + 16 != bytes.len() {
-        return refuse(refusals::JOB_LAYOUT, 0);
-    }
-    Checked::Accepted
+    Ok(())
 }
 
 // 11 to 13.
-pub fn check_form(version: Version, bytes: &[u8]) -> Checked
+#[tactic(auto, unfolding(crate::specs::Form::form_check))]
+pub fn check_form(version: Version, bytes: &[u8]) -> Result<(), Refusal>
     ensures { check_of result ≡ form_check version bytes.now }
 {
     let size = check_size(version, bytes.len());
-    let Checked::Accepted = size else {
+    let Ok(()) = size else {
         return size;
     };
     let signature = check_signature(version, bytes);
-    let Checked::Accepted = signature else {
+    let Ok(()) = signature else {
         return signature;
     };
     check_layout(version, bytes)
 }
 
 // 14 in version 1.
-fn check_zero(filler: u64, arc: usize) -> Checked
+fn check_zero(filler: u64, arc: usize) -> Result<(), Refusal>
     ensures { check_of result ≡ fault (not (eqb filler 0)) 14 arc }
 {
     if filler == 0 {
-        Checked::Accepted
+        Ok(())
     } else {
-        refuse(refusals::JOB_FILLER, arc)
+        Err(Reason::JobFiller.at(arc))
     }
 }
 
 // 16 in version 2.
-fn check_mark(mark: u64, arc: usize) -> Checked
+fn check_mark(mark: u64, arc: usize) -> Result<(), Refusal>
     ensures { check_of result ≡ fault (ltb 1 mark) 16 arc }
 {
     if 1 < mark {
-        refuse(refusals::MARK, arc)
+        Err(Reason::Mark.at(arc))
     } else {
-        Checked::Accepted
+        Ok(())
     }
 }
 
-fn check_filler(version: Version, filler: u64, arc: usize) -> Checked
+#[tactic(auto, unfolding(crate::specs::Form::filler_check))]
+fn check_filler(version: Version, filler: u64, arc: usize) -> Result<(), Refusal>
     ensures { check_of result ≡ filler_check version filler arc }
 {
     match version {
@@ -121,26 +116,21 @@ fn check_filler(version: Version, filler: u64, arc: usize) -> Checked
 }
 
 // 14 or 16 arc by arc, in the rows at an offset.
-fn check_rows(version: Version, bytes: &[u8], offset: usize, arcs: usize) -> Checked
+fn check_rows(version: Version, bytes: &[u8], offset: usize, arcs: usize) -> Result<(), Refusal>
     requires { offset + 8 * arcs ≤ length bytes.now }
     ensures { check_of result ≡ fillers_from version bytes.now offset 0 arcs }
 {
-    let mut i = 0;
-    while i < arcs {
-        let found = check_filler(version, number_at(bytes, offset + 2 + 8 * i, 2), i + 1);
-        let Checked::Accepted = found else {
-            return found;
-        };
-        i += 1;
+    for i in 0..arcs {
+        check_filler(version, number_at(bytes, offset + 2 + 8 * i, 2), i + 1)?;
     }
-    Checked::Accepted
+    Ok(())
 }
 
 // 14 in version 1, 16 in version 2.
-pub fn check_fillers(version: Version, bytes: &[u8]) -> Checked
+pub fn check_fillers(version: Version, bytes: &[u8]) -> Result<(), Refusal>
     requires { Layout version bytes.now }
     ensures { check_of result ≡ fillers_check version bytes.now }
 {
-    let t = job_bytes::read_trailer(bytes);
+    let t = Trailer::read(bytes);
     check_rows(version, bytes, t.arc_offset, t.arcs)
 }

@@ -11,16 +11,17 @@ use mathlib.Core.List.{List}
 use native.Mathlib.Decide.{ℕ_discrete, dec_lt}
 use native.Mathlib.Omega.{arith}
 use borrow.Author.Tests.{eq-eqb, ne_eqb}
-use lib.ListN.{length, set, drop, length-set}
+use lib.ListN.{length, get_or, set, drop, length-set}
 use lib.Seq.{get_or-set_same, get_or-set_other}
 use lib.Dec.{eqb}
 use Rattle.basics.specs.Sum.{pick, total}
 use Rattle.basics.proofs.Bools.{pick_yes, pick_no, pick_le}
 use Rattle.basics.proofs.Totals.{total_parts, total_first, total_none, total_drop}
 use Rattle.game.specs.Tree.{of_arc}
+use Rattle.game.proofs.ArcEntries.{arc_entry}
 use Rattle.limits.specs.Limits.{most_arcs}
 use Rattle.limits.specs.Inner.{most_total}
-use Rattle.key_passes.specs.Passes.{at, Rising, Outside, linked_sum, Adds, Addable, Evaluated}
+use Rattle.key_passes.specs.Passes.{at, share_at, Rising, Outside, linked_sum, Adds, Addable, own_at, Evaluated}
 use Rattle.key_passes.proofs.Places.{Placed, placed_or_outside}
 
 -- the order has at most m vertices
@@ -259,3 +260,38 @@ module _ (order links bounds : List ℕ) (own : ℕ → ℕ) where
         where
           more_value : (value : ℕ → ℕ) → Adds order links bounds own value → more ≡ max (of_arc bounds v) (value v)
           more_value value adds = more_is ∙ ap (max (of_arc bounds v)) (w_is ∙ evaluating_met value adds)
+
+-- one turn as the loop makes it: v is the vertex at the place before i, `now` what its users have, and p its link
+module _ (order links bounds caps numbers rests pivots : List ℕ) {sums held : List ℕ} {i v share now : ℕ}
+    (few : length bounds ≤ most_arcs) (rises : Rising (length bounds) order links)
+    (addable : Addable order links bounds (own_at caps numbers rests pivots))
+    (closed : (j : ℕ) → j < length order → Outside order (at links (at order j)) → at links (at order j) ≡ 0)
+    (turn : Evaluating order links bounds (own_at caps numbers rests pivots) sums held i) (some : 0 < i)
+    (v_is : v ≡ at order (i - 1)) (share_is : share ≡ share_at (at caps v) (at numbers v) (at pivots v))
+    (now_is : now ≡ at sums v + at rests v + share) where
+  ready : Ready order links bounds (own_at caps numbers rests pivots)
+  ready = record { few = few; rises = rises; addable = addable; closed = closed }
+
+  next : i ≡ suc (i - 1)
+  next = omega arith
+
+  sum_is : now ≡ at sums (at order (i - 1)) + own_at caps numbers rests pivots (at order (i - 1))
+  sum_is = rw v_is at (let e : now ≡ at sums v + own_at caps numbers rests pivots v = omega arith in e)
+
+  pub turn_fits : now ≤ most_total
+  turn_fits = omega (arith, sum_is, evaluating_fits order links bounds _ ready i (i - 1) next turn)
+
+  module _ {p more : ℕ} (p_is : p ≡ at links v) (more_is : more ≡ max (get_or bounds (v - 1) 0) now) where
+    more_here : more ≡ max (of_arc bounds (at order (i - 1))) now
+    more_here =
+        let low = link_lower order links bounds _ ready i (i - 1) next turn in
+        rw v_is at (more_is ∙ ap (λ (b : ℕ). max b now) (arc_entry bounds v (omega arith)))
+
+    pub turn_sum_fits : at (set sums v 0) p + more ≤ 1024 * most_total
+    turn_sum_fits =
+        rw (p_is, v_is) (linked_fits order links bounds _ ready i (i - 1) next turn now more sum_is more_here)
+
+    pub turn_on : Evaluating order links bounds (own_at caps numbers rests pivots)
+        (set (set sums v 0) p (at (set sums v 0) p + more)) (set held v now) (i - 1)
+    turn_on =
+        rw (p_is, v_is) (evaluating_on order links bounds _ ready i (i - 1) next turn now more sum_is more_here)

@@ -1,3 +1,4 @@
+pub mod FlagTests
 pub mod Places
 pub mod Filtered
 mod Evaluating

@@ -2,7 +2,6 @@
 --
 --   placed_at, placed_first, placed_later  a vertex stands at a place
 --   placed_or_outside                      v stands in the order or does not
---   rising_at                              the vertex at a place, and its link
 --   written, lower_kept                    a list after it is written at the vertex at a place
 use Prim.Native.Nat.{ℕ, zero, suc, ◌≤◌, ◌<◌}
 use mathlib.Core.Path.{◌≡◌, refl, subst}
@@ -10,7 +9,7 @@ use mathlib.Core.Logic.{◌⊎◌, inl, inr, ⊎_elim}
 use mathlib.Core.List.{List, [], ◌∷◌}
 use native.Mathlib.Decide.{ℕ_discrete}
 use native.Mathlib.Omega.{arith}
-use lib.ListN.{length, set}
+use lib.ListN.{length, get_or, set}
 use lib.Seq.{get_or-set_same, get_or-set_other}
 use Rattle.limits.specs.Limits.{most_arcs}
 use Rattle.key_passes.specs.Passes.{at, Rising, Outside}
@@ -45,14 +44,12 @@ placed_or_outside (w ∷ l) v =
     later d o (suc i) h e = o i (omega arith) e
 
 module _ {m : ℕ} {order links : List ℕ} (r : Rising m order links) (i : ℕ) (h : i < length order) where
-  -- the vertex at place i, and its link
-  pub rising_at : (0 < at order i) × (at order i ≤ m) × (at links (at order i) < at order i)
-  rising_at = (r.first i h, r.last i h, r.lower i h)
-
   -- a list with one entry a vertex, written there
-  pub written : m ≤ most_arcs → (l : List ℕ) (x : ℕ) → length l ≡ 1024 → at (set l (at order i) x) (at order i) ≡ x
-  written few l x e = get_or-set_same l (at order i) x 0 (omega (arith, r.last i h))
+  pub written : {A : Type 0} → m ≤ most_arcs → (l : List A) (x none : A) → length l ≡ 1024
+      → get_or (set l (at order i) x) (at order i) none ≡ x
+  written few l x none e = get_or-set_same l (at order i) x none (omega (arith, r.last i h))
 
 -- the entries of lower vertices
-pub lower_kept : (order : List ℕ) (i : ℕ) (l : List ℕ) (x w : ℕ) → w < at order i → at (set l (at order i) x) w ≡ at l w
-lower_kept order i l x w d = get_or-set_other l (at order i) w x 0 (λ e. absurd (omega arith))
+pub lower_kept : {A : Type 0} (order : List ℕ) (i : ℕ) (l : List A) (x none : A) (w : ℕ) → w < at order i
+    → get_or (set l (at order i) x) w none ≡ get_or l w none
+lower_kept order i l x none w d = get_or-set_other l (at order i) w x none (λ e. absurd (omega arith))

@@ -7,6 +7,6 @@ use crate::KEYS_PER_LEVEL;
 pub fn share_at(cap: u64, number: u64, key: u64) -> u64
     ensures { result ≡ share_at cap number key }
 {
-    let level = key / KEYS_PER_LEVEL + numbers::one_if_below(number, key % KEYS_PER_LEVEL);
-    numbers::smaller_of(cap, level)
+    let level = key / KEYS_PER_LEVEL + u64::from(number < key % KEYS_PER_LEVEL);
+    cap.min(level)
 }

@@ -14,70 +14,73 @@ use Rattle.basics.proofs.Sums.{In}
 use Rattle.game.proofs.Below.{Rooted}
 use Rattle.game.proofs.LevelKeys.{held_mono, held_same_child}
 use Rattle.game.proofs.PathKeys.{arc_key_held, arc_key_most, arc_key_within, path_key_le, path_key_source}
-use Rattle.key_passes.specs.Passes.{at, flag_of, Settled, Chosen}
+use Rattle.key_passes.specs.declared.flags.Flag.{Flag}
+use Rattle.key_passes.specs.declared.flags.Flag.TheVariants.{Below, Reached, Exact}
+use Rattle.key_passes.specs.Passes.{at, flag_at, is_reached, flag_of, Settled, Chosen}
 use Rattle.key_passes.proofs.Places.{Placed}
 use Rattle.key_search.proofs.State.{State}
 use Rattle.key_search.proofs.Opened.{open_at, placed_in, along_links, link_step, pivot_between, pivot_same}
 
--- The flag of vertex v by the greatest key on its path. Flag 0: it is below key. Flag 1: key or above. Flag 2: besides,
+-- The flag of vertex v by the greatest key on its path. Below: it is below key. Reached: key or above. Exact: besides,
 -- what the arc's users have at it they have at key.
-pub data Decided (n : Network) (caps : List ℕ) (bound : ℕ → ℕ) (last : ℕ) (flags : List ℕ) (key v : ℕ) : Type 0 where
-  under : at flags v ≡ 0 → path_key n caps bound last v < key → Decided n caps bound last flags key v
-  over : at flags v ≡ 1 → key ≤ path_key n caps bound last v → Decided n caps bound last flags key v
-  hit : at flags v ≡ 2 → key ≤ path_key n caps bound last v
+pub data Decided (n : Network) (caps : List ℕ) (bound : ℕ → ℕ) (last : ℕ) (flags : List Flag) (key v : ℕ) : Type 0 where
+  under : flag_at flags v ≡ Below → path_key n caps bound last v < key → Decided n caps bound last flags key v
+  over : flag_at flags v ≡ Reached → key ≤ path_key n caps bound last v → Decided n caps bound last flags key v
+  hit : flag_at flags v ≡ Exact → key ≤ path_key n caps bound last v
       → held n caps bound key v ≡ held n caps bound (path_key n caps bound last v) v
       → Decided n caps bound last flags key v
 
 -- where its link's flag is another, the greatest key on the path is the arc's own
-pub record Cut (n : Network) (caps : List ℕ) (bound : ℕ → ℕ) (last : ℕ) (links flags : List ℕ) (key v : ℕ) : Type 0
-  where
-    pub reached : key ≤ arc_key n caps bound last v
-    pub own : path_key n caps bound last v ≡ arc_key n caps bound last v
-    pub link_flag : at flags (at links v) ≡ 1 → ⊥
+pub record Cut (n : Network) (caps : List ℕ) (bound : ℕ → ℕ) (last : ℕ) (links : List ℕ) (flags : List Flag)
+    (key v : ℕ) : Type 0 where
+  pub reached : key ≤ arc_key n caps bound last v
+  pub own : path_key n caps bound last v ≡ arc_key n caps bound last v
+  pub link_flag : is_reached (flag_at flags (at links v)) ≡ false
 
 -- what the flag of vertex v tells, and what it tells with its link's
-pub record Told (n : Network) (caps : List ℕ) (bound : ℕ → ℕ) (last : ℕ) (links flags : List ℕ) (key v : ℕ) : Type 0
-  where
-    pub decided : Decided n caps bound last flags key v
-    pub cut : (at flags v ≡ at flags (at links v) → ⊥) → Cut n caps bound last links flags key v
+pub record Told (n : Network) (caps : List ℕ) (bound : ℕ → ℕ) (last : ℕ) (links : List ℕ) (flags : List Flag)
+    (key v : ℕ) : Type 0 where
+  pub decided : Decided n caps bound last flags key v
+  pub cut : (flag_at flags v ≡ flag_at flags (at links v) → ⊥) → Cut n caps bound last links flags key v
 
-flag_over : (t b f : ℕ) → b < t → flag_of t b f ≡ f
+flag_over : (t b : ℕ) (f : Flag) → b < t → flag_of t b f ≡ f
 flag_over t b f h = rw (lt-ltb b t h)
 
-flag_one : (t b f : ℕ) → f ≡ 1 → flag_of t b f ≡ 1
-flag_one t b f e =
+flag_reached : (t b : ℕ) (f : Flag) → f ≡ Reached → flag_of t b f ≡ Reached
+flag_reached t b f e =
     rw e (⊎_elim (λ (d : ltb b t ≡ true). rw d refl) (λ (d : ltb b t ≡ false). rw d refl) (both (ltb b t)))
 
-flag_even : (t b f : ℕ) → t ≡ b → (f ≡ 1 → ⊥) → flag_of t b f ≡ 2
-flag_even t b f e d = rw (le-ltb b t (omega arith), ne_eqb f 1 d, eq-eqb t b e)
+flag_exact : (t b : ℕ) (f : Flag) → t ≡ b → is_reached f ≡ false → flag_of t b f ≡ Exact
+flag_exact t b f e d = rw (le-ltb b t (omega arith), d, eq-eqb t b e)
 
-flag_under : (t b f : ℕ) → t < b → (f ≡ 1 → ⊥) → flag_of t b f ≡ 1
-flag_under t b f h d = rw (le-ltb b t (omega arith), ne_eqb f 1 d, ne_eqb t b (λ (e : t ≡ b). omega arith))
+flag_under : (t b : ℕ) (f : Flag) → t < b → is_reached f ≡ false → flag_of t b f ≡ Reached
+flag_under t b f h d = rw (le-ltb b t (omega arith), d, ne_eqb t b (λ (e : t ≡ b). omega arith))
 
 -- a round: pivots are chosen, `holds` has what the arcs' users have at them, and flags and keys are settled by that
 pub record Round (n : Network) (caps bounds : List ℕ) (last : ℕ) (order links lows highs rests pivots holds : List ℕ)
-    (flags flags' lows' highs' : List ℕ) : Type 0 where
+    (flags flags' : List Flag) (lows' highs' : List ℕ) : Type 0 where
   pub rooted : Rooted n
   pub grows : (k : ℕ) → In n.arcs k → of_children n (of_arc bounds) k ≤ of_arc bounds k
   pub before : State n caps (of_arc bounds) last order links lows highs rests
   pub chosen : Chosen order links lows highs pivots
   pub held_at : (i : ℕ) → i < length order
       → at holds (at order i) ≡ held n caps (of_arc bounds) (at pivots (at order i)) (at order i)
-  pub source : at flags 0 ≡ 0
+  pub source : flag_at flags 0 ≡ Below
   pub settled : Settled order links bounds pivots holds flags lows highs flags' lows' highs'
 
 module _ {n : Network} {caps bounds : List ℕ} {last : ℕ} {order links lows highs rests pivots holds : List ℕ}
-    {flags flags' lows' highs' : List ℕ}
+    {flags flags' : List Flag} {lows' highs' : List ℕ}
     (r : Round n caps bounds last order links lows highs rests pivots holds flags flags' lows' highs') where
-  pub flag_source : at flags' 0 ≡ 0
+  pub flag_source : flag_at flags' 0 ≡ Below
   flag_source = r.settled.flags_kept 0 (λ i h e. omega (arith, r.before.order_rises.first i h)) ∙ r.source
 
   flag_is : (v : ℕ) → Placed order v
-      → at flags' v ≡ flag_of (held n caps (of_arc bounds) (at pivots v) v) (of_arc bounds v) (at flags' (at links v))
+      → flag_at flags' v
+      ≡ flag_of (held n caps (of_arc bounds) (at pivots v) v) (of_arc bounds v) (flag_at flags' (at links v))
   flag_is v p =
       rw p.is at
       (r.settled.flag p.place p.within
-      ∙ ap (λ (t : ℕ). flag_of t (of_arc bounds (at order p.place)) (at flags' (at links (at order p.place))))
+      ∙ ap (λ (t : ℕ). flag_of t (of_arc bounds (at order p.place)) (flag_at flags' (at links (at order p.place))))
       (r.held_at p.place p.within))
 
   module _ (v : ℕ) (p : Placed order v) where
@@ -96,8 +99,8 @@ module _ {n : Network} {caps bounds : List ℕ} {last : ℕ} {order links lows h
     abbrev path : ℕ → ℕ
     path = path_key n caps bound last
 
-    abbrev link_flag : ℕ
-    link_flag = at flags' (at links v)
+    abbrev link_flag : Flag
+    link_flag = flag_at flags' (at links v)
 
     inside : In n.arcs v
     inside = placed_in r.before v p
@@ -110,14 +113,15 @@ module _ {n : Network} {caps bounds : List ℕ} {last : ℕ} {order links lows h
         arc_key_most n caps bound last key v
         (omega (arith, pivot_between r.before r.chosen v p, (open_at r.before v p).within_last))
 
-    -- within the bound, where the arc's own key is the greatest on the path and the link's flag is not 1
-    told_own : has key ≤ bound v → (link_flag ≡ 1 → ⊥) → path v ≡ own → Told n caps bound last links flags' key v
+    -- within the bound, where the arc's own key is the greatest on the path and the link's flag is not `Reached`
+    told_own : has key ≤ bound v → is_reached link_flag ≡ false → path v ≡ own
+        → Told n caps bound last links flags' key v
     told_own h d e =
         record {
           decided = elim (dec_lt (has key) (bound v)) [
             | yes l ↦ over (flag_is v p ∙ flag_under (has key) (bound v) link_flag l d) (omega (arith, key_reached h))
             | no l ↦
-                hit (flag_is v p ∙ flag_even (has key) (bound v) link_flag (omega arith) d)
+                hit (flag_is v p ∙ flag_exact (has key) (bound v) link_flag (omega arith) d)
                 (omega (arith, key_reached h))
                 (omega (
                   arith,
@@ -130,11 +134,11 @@ module _ {n : Network} {caps bounds : List ℕ} {last : ℕ} {order links lows h
         }
 
     -- where the link's users have at its path's key what they have at the pivot, so do v's, but for the bound
-    child_same : link_flag ≡ 2 → key ≤ path (at links v)
+    child_same : link_flag ≡ Exact → key ≤ path (at links v)
         → held n caps bound key (at links v) ≡ held n caps bound (path (at links v)) (at links v)
         → max (bound v) (has key) ≡ max (bound v) (has (path (at links v)))
     child_same e l same =
-        let up = (open_at r.before v p).linked (λ z. omega (arith, flag_source, ap (at flags') z)) in
+        let up = (open_at r.before v p).linked (λ z. cc (ap (flag_at flags') z ∙ flag_source, e)) in
         held_same_child n caps bound r.rooted key (path (at links v)) (at links v)
         (placed_in r.before (at links v) up.to_open) l same v inside (sym up.to_parent)
 
@@ -143,7 +147,7 @@ module _ {n : Network} {caps bounds : List ℕ} {last : ℕ} {order links lows h
         → Told n caps bound last links flags' key v
     told_above h up = record { decided = as_it up; cut = λ c. absurd (c same_flag) }
       where
-        same_flag : at flags' v ≡ link_flag
+        same_flag : flag_at flags' v ≡ link_flag
         same_flag = flag_is v p ∙ flag_over (has key) (bound v) link_flag h
 
         beyond : own < key
@@ -164,12 +168,12 @@ module _ {n : Network} {caps bounds : List ℕ} {last : ℕ} {order links lows h
     told_within : has key ≤ bound v → Decided n caps bound last flags' key (at links v)
         → Told n caps bound last links flags' key v
     told_within h (under e l) =
-        told_own h (λ d. omega arith) (omega (arith, key_reached h, step))
+        told_own h (ap is_reached e) (omega (arith, key_reached h, step))
     told_within h (over e l) =
-        let one = flag_is v p ∙ flag_one (has key) (bound v) link_flag e in
+        let one = flag_is v p ∙ flag_reached (has key) (bound v) link_flag e in
         record { decided = over one (omega (arith, step)); cut = λ c. absurd (c (one ∙ sym e)) }
     told_within h (hit e l same) =
-        told_own h (λ d. omega arith)
+        told_own h (ap is_reached e)
         (omega (
           arith,
           step,
@@ -192,7 +196,7 @@ module _ {n : Network} {caps bounds : List ℕ} {last : ℕ} {order links lows h
       link_decided v p ih =
           elim (ℕ_discrete (at links v) 0) [
             | yes e ↦
-                under (ap (at flags') e ∙ flag_source)
+                under (ap (flag_at flags') e ∙ flag_source)
                 (omega (
                   arith,
                   ap (path_key n caps (of_arc bounds) last) e,

@@ -4,7 +4,7 @@
 --   left_settled                     a vertex that does not stay open is settled
 --   low_same, high_same, stays_same  linked vertices with the same flag
 --   round_nearer                     the keys' distances add up to less
-use Rattle.std.proofs.Common.{◌≡◌, ℕ, ◌+◌, ◌-◌, ◌<◌, ◌≤◌, Bool, false, cond, eqb, List, length, ap, ◌∙◌, ⊎_elim, arith, ltb-false, eq-eqb, ne_eqb, eqb-true}
+use Rattle.std.proofs.Common.{◌≡◌, ℕ, ◌+◌, ◌-◌, ◌<◌, ◌≤◌, Bool, false, cond, List, length, ap, ◌∙◌, ⊎_elim, arith, ltb-false}
 use borrow.Author.Tests.{not-false}
 use Rattle.basics.specs.Sum.{sum}
 use Rattle.game.specs.Network.{Network}
@@ -12,16 +12,13 @@ use Rattle.game.specs.LevelKeys.{path_key}
 use Rattle.game.specs.Tree.{of_arc}
 use Rattle.basics.proofs.Sums.{In, sum_gap}
 use Rattle.game.proofs.LevelKeys.{vertex_at, held_same_vertex}
-use Rattle.key_passes.specs.Passes.{at, Outside, stays_open, is_cut}
+use Rattle.key_passes.specs.declared.flags.Flag.{Flag}
+use Rattle.key_passes.specs.declared.flags.Flag.TheVariants.{Below}
+use Rattle.key_passes.specs.Passes.{at, flag_at, is_below, is_exact, same_flag, Outside, stays_open, is_cut}
+use Rattle.key_passes.proofs.FlagTests.{same_flags}
 use Rattle.key_passes.proofs.Places.{Placed, placed_at, placed_or_outside}
 use Rattle.key_search.proofs.Opened.{open_at, placed_in, pivot_between, pivot_same}
 use Rattle.key_search.proofs.Decided.{Decided, under, over, hit, Round, flag_tells}
-
-cond_zero : {f : ℕ} (a b : ℕ) → f ≡ 0 → cond (eqb f 0) a b ≡ a
-cond_zero {f} a b e = rw (eq-eqb f 0 e)
-
-cond_more : {f : ℕ} (a b : ℕ) → (f ≡ 0 → ⊥) → cond (eqb f 0) a b ≡ b
-cond_more {f} a b d = rw (ne_eqb f 0 d)
 
 -- the keys of an open vertex before and after a round, and the greatest key on its path
 pub record Moved (path low high low' high' : ℕ) : Type 0 where
@@ -32,7 +29,7 @@ pub record Moved (path low high low' high' : ℕ) : Type 0 where
   pub nearer : high' - low' < high - low
 
 module _ {n : Network} {caps bounds : List ℕ} {last : ℕ} {order links lows highs rests pivots holds : List ℕ}
-    {flags flags' lows' highs' : List ℕ}
+    {flags flags' : List Flag} {lows' highs' : List ℕ}
     (r : Round n caps bounds last order links lows highs rests pivots holds flags flags' lows' highs') where
   abbrev bound : ℕ → ℕ
   bound = of_arc bounds
@@ -43,21 +40,20 @@ module _ {n : Network} {caps bounds : List ℕ} {last : ℕ} {order links lows h
   abbrev stays : ℕ → Bool
   stays = stays_open flags' lows' highs'
 
-  low_is : (v : ℕ) → Placed order v → at lows' v ≡ cond (eqb (at flags' v) 0) (at lows v) (at pivots v)
+  low_is : (v : ℕ) → Placed order v → at lows' v ≡ cond (is_below (flag_at flags' v)) (at lows v) (at pivots v)
   low_is v p = rw p.is at (r.settled.low p.place p.within)
 
-  high_is : (v : ℕ) → Placed order v → at highs' v ≡ cond (eqb (at flags' v) 0) (at pivots v) (at highs v)
+  high_is : (v : ℕ) → Placed order v → at highs' v ≡ cond (is_below (flag_at flags' v)) (at pivots v) (at highs v)
   high_is v p = rw p.is at (r.settled.high p.place p.within)
 
   -- the keys by the flag
-  pub keys_under : (v : ℕ) → Placed order v → at flags' v ≡ 0 → (at lows' v ≡ at lows v) × (at highs' v ≡ at pivots v)
-  keys_under v p e =
-      (low_is v p ∙ cond_zero (at lows v) (at pivots v) e, high_is v p ∙ cond_zero (at pivots v) (at highs v) e)
+  pub keys_under : (v : ℕ) → Placed order v → flag_at flags' v ≡ Below
+      → (at lows' v ≡ at lows v) × (at highs' v ≡ at pivots v)
+  keys_under v p e = (rw e at (low_is v p), rw e at (high_is v p))
 
-  keys_over : (v : ℕ) → Placed order v → (at flags' v ≡ 0 → ⊥)
+  keys_over : (v : ℕ) → Placed order v → is_below (flag_at flags' v) ≡ false
       → (at lows' v ≡ at pivots v) × (at highs' v ≡ at highs v)
-  keys_over v p d =
-      (low_is v p ∙ cond_more (at lows v) (at pivots v) d, high_is v p ∙ cond_more (at pivots v) (at highs v) d)
+  keys_over v p d = (rw d at (low_is v p), rw d at (high_is v p))
 
   pub keys_moved : (v : ℕ) → Placed order v → Moved (path v) (at lows v) (at highs v) (at lows' v) (at highs' v)
   keys_moved v p = by_flag (flag_tells r v p).decided
@@ -68,34 +64,32 @@ module _ {n : Network} {caps bounds : List ℕ} {last : ℕ} {order links lows h
       by_flag : Decided n caps bound last flags' (at pivots v) v
           → Moved (path v) (at lows v) (at highs v) (at lows' v) (at highs' v)
       by_flag (under e l) = omega (arith, between, keys_under v p e, open_at r.before v p)
-      by_flag (over e l) = omega (arith, between, keys_over v p (λ z. omega arith), open_at r.before v p)
-      by_flag (hit e l same) = omega (arith, between, keys_over v p (λ z. omega arith), open_at r.before v p)
+      by_flag (over e l) = omega (arith, between, keys_over v p (ap is_below e), open_at r.before v p)
+      by_flag (hit e l same) = omega (arith, between, keys_over v p (ap is_below e), open_at r.before v p)
 
   -- a vertex that does not stay open is settled
   pub left_settled : (v : ℕ) → Placed order v → stays v ≡ false
       → vertex_at n caps (at lows' v) v ≡ vertex_at n caps (path v) v
   left_settled v p e = by_flag (flag_tells r v p).decided
     where
-      narrow : (at flags' v ≡ 2 → ⊥) → vertex_at n caps (at lows' v) v ≡ vertex_at n caps (path v) v
+      narrow : is_exact (flag_at flags' v) ≡ false → vertex_at n caps (at lows' v) v ≡ vertex_at n caps (path v) v
       narrow d =
           let m = keys_moved v p in
-          let z = ltb-false (at lows' v + 1) (at highs' v) (rw (ne_eqb (at flags' v) 2 d) at e) in
+          let z = ltb-false (at lows' v + 1) (at highs' v) (rw d at e) in
           ap (λ (key : ℕ). vertex_at n caps key v) (omega arith)
 
       by_flag : Decided n caps bound last flags' (at pivots v) v
           → vertex_at n caps (at lows' v) v ≡ vertex_at n caps (path v) v
-      by_flag (under f l) = narrow (λ z. omega arith)
-      by_flag (over f l) = narrow (λ z. omega arith)
+      by_flag (under f l) = narrow (ap is_exact f)
+      by_flag (over f l) = narrow (ap is_exact f)
       by_flag (hit f l same) =
-          ap (λ (key : ℕ). vertex_at n caps key v) (keys_over v p (λ z. omega arith)).0
+          ap (λ (key : ℕ). vertex_at n caps key v) (keys_over v p (ap is_below f)).0
           ∙ held_same_vertex n caps bound r.rooted (at pivots v) (path v) v (placed_in r.before v p) l same
 
   -- linked vertices with the same flag have the same keys
   module _ (v : ℕ) (p : Placed order v) (l : at links v ≡ 0 → ⊥) (u : is_cut links flags' v ≡ false) where
-    flag_same : at flags' v ≡ at flags' (at links v)
-    flag_same =
-        let of_link = at flags' (at links v) in
-        eqb-true (at flags' v) of_link (not-false (eqb (at flags' v) of_link) u)
+    flag_same : flag_at flags' v ≡ flag_at flags' (at links v)
+    flag_same = same_flags (flag_at flags' v) (flag_at flags' (at links v)) (not-false (same_flag _ _) u)
 
     pub low_same : at lows' v ≡ at lows' (at links v)
     low_same =

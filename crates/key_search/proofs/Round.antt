@@ -5,17 +5,20 @@
 --   next_rises, next_settled   the order, and the vertices that leave it
 --   round_state                the state after the round
 use Rattle.std.proofs.Common.{◌≡◌, ℕ, ◌+◌, ◌<◌, ◌≤◌, max, Bool, true, false, cond, not, eqb, ltb, ◌⊎◌, List, length, sym, refl, ap, ◌∙◌, subst, inl, inr, ⊎_elim, arith, ltb-true, ne_eqb, eqb-true}
-use borrow.Author.Tests.{eqb-false, not-true}
+use borrow.Author.Tests.{not-true}
 use Rattle.basics.specs.Sum.{pick, total}
 use Rattle.game.specs.Network.{Network}
 use Rattle.game.specs.LevelKeys.{held, arc_key, path_key}
 use Rattle.game.specs.Tree.{of_arc}
-use Rattle.basics.proofs.Bools.{both, and_first, and_second, pick_zero}
+use Rattle.basics.proofs.Bools.{both, clash, and_first, and_second, pick_zero}
 use Rattle.basics.proofs.Sums.{In}
 use Rattle.basics.proofs.Totals.{total_cong, total_add}
 use Rattle.game.proofs.LevelKeys.{vertex_at}
 use Rattle.game.proofs.PathKeys.{arc_key_within}
+use Rattle.key_passes.specs.declared.flags.Flag.{Flag}
+use Rattle.key_passes.specs.Passes.{flag_at, is_reached, is_exact, same_flag}
 use Rattle.key_passes.specs.Passes.{at, Rising, Outside, linked_sum, stays_open, is_cut, Kept}
+use Rattle.key_passes.proofs.FlagTests.{differ_flags}
 use Rattle.key_passes.proofs.Places.{Placed, placed_at, placed_or_outside}
 use Rattle.key_passes.proofs.Filtered.{Passing, placed_filtered, filtered_placed, filtered_rises, total_filtered}
 use Rattle.key_search.proofs.State.{Linked, Open, State}
@@ -33,7 +36,7 @@ pick_moves false true t b x y cut uncut same stay = rw (cut refl) (omega (arith,
 pick_moves false false t b x y cut uncut same stay = rw (uncut refl) (omega (arith, pick_zero t))
 
 module _ {n : Network} {caps bounds : List ℕ} {last : ℕ} {order links lows highs rests pivots holds : List ℕ}
-    {flags flags' lows' highs' : List ℕ}
+    {flags flags' : List Flag} {lows' highs' : List ℕ}
     (r : Round n caps bounds last order links lows highs rests pivots holds flags flags' lows' highs')
     {order' links' rests' : List ℕ} (kept : Kept order links bounds flags' lows' highs' rests order' links' rests')
   where
@@ -77,10 +80,8 @@ module _ {n : Network} {caps bounds : List ℕ} {last : ℕ} {order links lows h
               same_high = rw e (high_same r v q.placed d c);
             }
 
-    cut_differs : (v : ℕ) → is_cut links flags' v ≡ true → at flags' v ≡ at flags' (at links v) → ⊥
-    cut_differs v c =
-        let of_link = at flags' (at links v) in
-        eqb-false (at flags' v) of_link (not-true (eqb (at flags' v) of_link) c)
+    cut_differs : (v : ℕ) → is_cut links flags' v ≡ true → flag_at flags' v ≡ flag_at flags' (at links v) → ⊥
+    cut_differs v c = differ_flags (flag_at flags' v) (flag_at flags' (at links v)) (not-true (same_flag _ _) c)
 
     next_own_key : (v : ℕ) → Placed order v → at links' v ≡ 0 → path v ≡ arc_key n caps bound last v
     next_own_key v p z =
@@ -116,13 +117,12 @@ module _ {n : Network} {caps bounds : List ℕ} {last : ℕ} {order links lows h
           ∙ ap (λ (t : ℕ). total cut order + t)
           (sym (ap (total on) kept.open_are ∙ total_filtered stays on order))
 
-      not_hit : at flags' v ≡ 2 → ⊥
+      not_hit : is_exact (flag_at flags' v) ≡ false
       not_hit =
-          eqb-false (at flags' v) 2
-          (not-true (eqb (at flags' v) 2)
-          (and_first (not (eqb (at flags' v) 2)) (ltb (at lows' v + 1) (at highs' v)) q.passes))
+          not-true (is_exact (flag_at flags' v))
+          (and_first (not (is_exact (flag_at flags' v))) (ltb (at lows' v + 1) (at highs' v)) q.passes)
 
-      -- a link to v is cut only where v's flag is 0, so up to v's new high key the bound is kept
+      -- a link to v is cut only where v's flag is `Below`, so up to v's new high key the bound is kept
       cut_within : (c key : ℕ) → Placed order c → at links c ≡ v → is_cut links flags' c ≡ true → key < at highs' v
           → held n caps bound key c ≤ bound c
       cut_within c key p e d h = by_flag (flag_tells r v q.placed).decided
@@ -141,8 +141,8 @@ module _ {n : Network} {caps bounds : List ℕ} {last : ℕ} {order links lows h
                 pivot_same r.before r.chosen c p z,
                 ap (at pivots) e,
               ))
-          by_flag (over f l) = absurd (cut.link_flag (ap (at flags') e ∙ f))
-          by_flag (hit f l same) = absurd (not_hit f)
+          by_flag (over f l) = absurd (clash (ap is_reached (ap (flag_at flags') e ∙ f)) cut.link_flag)
+          by_flag (hit f l same) = absurd (clash (ap is_exact f) not_hit)
 
       rest_is : at rests' v ≡ at rests v + linked_sum order links (λ c. pick (is_cut links flags' c) (bound c)) v
       rest_is = rw q.placed.is at (kept.rest q.placed.place q.placed.within)
@@ -156,7 +156,7 @@ module _ {n : Network} {caps bounds : List ℕ} {last : ℕ} {order links lows h
             high = m.high_more;
             within_last = omega arith;
             wide = ltb-true (at lows' v + 1) (at highs' v)
-                (and_second (not (eqb (at flags' v) 2)) (ltb (at lows' v + 1) (at highs' v)) q.passes);
+                (and_second (not (is_exact (flag_at flags' v))) (ltb (at lows' v + 1) (at highs' v)) q.passes);
             linked = next_linked v q;
             own_key = next_own_key v q.placed;
             balance = λ key l h.

@@ -1,7 +1,6 @@
 -- What the loop over the rounds keeps, what each pass of a round asks for, and what the last round leaves.
 use Rattle.std.proofs.Common.{◌≡◌, ℕ, ◌+◌, ◌-◌, ◌*◌, ◌<◌, ◌≤◌, List, [], ◌++◌, length, take, drop, sym, ap, ◌∙◌, subst, arith, length-append, length-drop, length-take}
 use native.Mathlib.Decide.{ℕ_discrete}
-use native.Mathlib.Nat.{sub-zero}
 use lib.Seq.{take-append-le}
 use Rattle.basics.specs.Sum.{sum, list}
 use Rattle.basics.proofs.Sums.{In}
@@ -14,7 +13,9 @@ use Rattle.limits.specs.Inner.{most_total}
 use Rattle.tree.specs.Passes.{Sound, Listed, Capped, network_at}
 use Rattle.tree.proofs.Vertices.{vertices_count, vertices_few}
 use Rattle.answers.specs.Level.{cap_sum}
-use Rattle.key_passes.specs.Passes.{at, Rising, Outside, linked_sum, Adds, Addable, own_at, Evaluated, Settled}
+use Rattle.key_passes.specs.declared.flags.Flag.{Flag}
+use Rattle.key_passes.specs.declared.flags.Flag.TheVariants.{Below}
+use Rattle.key_passes.specs.Passes.{at, flag_at, Rising, Outside, linked_sum, Adds, Addable, own_at, Evaluated, Settled}
 use Rattle.key_passes.specs.Passes.{stays_open, Kept, Chosen, AtVertices}
 use Rattle.key_passes.proofs.Places.{placed_at}
 use Rattle.key_passes.proofs.Filtered.{filtered_placed}
@@ -39,13 +40,18 @@ pub record Ready (parents vertices caps bounds caps_at numbers_at : List ℕ) : 
   pub bounded : Bounds parents vertices caps bounds
   pub placed : AtVertices vertices caps caps_at numbers_at
 
+pub as_ready : {parents vertices caps bounds caps_at numbers_at : List ℕ} → Sound parents → Listed parents vertices
+    → Capped (length vertices) caps → Bounds parents vertices caps bounds
+    → AtVertices vertices caps caps_at numbers_at → Ready parents vertices caps bounds caps_at numbers_at
+as_ready s l c b p = record { sound = s; listed = l; capped = c; bounded = b; placed = p }
+
 -- where it stands between two rounds
-pub record Standing (parents vertices caps bounds : List ℕ) (order links lows highs rests sums flags : List ℕ)
-    : Type 0 where
+pub record Standing (parents vertices caps bounds : List ℕ) (order links lows highs rests sums : List ℕ)
+    (flags : List Flag) : Type 0 where
   pub state : State (network_at parents [] vertices) caps (of_arc bounds) last_key order links lows highs rests
   pub no_sums : (i : ℕ) → i < length order → at sums (at order i) ≡ 0
   pub no_sum : at sums 0 ≡ 0
-  pub source : at flags 0 ≡ 0
+  pub source : flag_at flags 0 ≡ Below
 
 module _ {parents vertices caps bounds caps_at numbers_at : List ℕ}
     (ready : Ready parents vertices caps bounds caps_at numbers_at) where
@@ -58,23 +64,17 @@ module _ {parents vertices caps bounds caps_at numbers_at : List ℕ}
   most : (k : ℕ) → cap_sum net caps k ≤ most_total
   most k = caps_most net caps ready.capped.limited ready.sound.few k
 
-  module _ {order links lows highs rests sums flags : List ℕ}
+  module _ {order links lows highs rests sums : List ℕ} {flags : List Flag}
       (s : Standing parents vertices caps bounds order links lows highs rests sums flags) where
-    rises_to : (m : ℕ) → length parents ≤ m → Rising m order links
-    rises_to m h =
+    pub rises_by_bounds : Rising (length bounds) order links
+    rises_by_bounds =
         let r = s.state.order_rises in
         record {
           first = r.first;
-          last = λ i l. omega (arith, r.last i l);
+          last = λ i l. omega (arith, r.last i l, ready.bounded.sized);
           rising = r.rising;
           lower = r.lower;
         }
-
-    pub rises : Rising most_arcs order links
-    rises = rises_to most_arcs ready.sound.few
-
-    pub rises_by_bounds : Rising (length bounds) order links
-    rises_by_bounds = rises_to (length bounds) (omega (arith, ready.bounded.sized))
 
     pub wide : (i : ℕ) → i < length order → at lows (at order i) + 1 < at highs (at order i)
     wide i h = (s.state.opened i h).wide
@@ -126,7 +126,7 @@ module _ {parents vertices caps bounds caps_at numbers_at : List ℕ}
             bounded = bound_most;
           }
 
-      module _ {holds flags' lows' highs' : List ℕ}
+      module _ {holds : List ℕ} {flags' : List Flag} {lows' highs' : List ℕ}
           (evaluated : Evaluated order links bounds (own_at caps_at numbers_at rests pivots) holds)
           (settled : Settled order links bounds pivots holds flags lows highs flags' lows' highs') where
         round : Round net caps bounds last_key order links lows highs rests pivots holds flags flags' lows' highs'
@@ -179,13 +179,14 @@ module _ {parents vertices caps bounds caps_at numbers_at : List ℕ}
               s.state none;
         }
 
-  pub standing_start : {order links lows highs rests sums flags : List ℕ} → order ≡ list (length parents) (λ v. v)
+  pub standing_start : {order links lows highs rests sums : List ℕ} {flags : List Flag}
+      → order ≡ list (length parents) (λ v. v)
       → ((v : ℕ) → In (length parents) v → at links v ≡ of_arc parents v)
       → ((v : ℕ) → at lows v ≡ 0)
       → ((v : ℕ) → In (length parents) v → at highs v ≡ last_key + 1)
       → ((v : ℕ) → at rests v ≡ 0)
       → ((v : ℕ) → at sums v ≡ 0)
-      → at flags 0 ≡ 0
+      → flag_at flags 0 ≡ Below
       → Standing parents vertices caps bounds order links lows highs rests sums flags
   standing_start {order} all links lows highs rests sums source =
       record {
@@ -199,18 +200,12 @@ module _ {parents vertices caps bounds caps_at numbers_at : List ℕ}
 
 -- the front of the order is lent, and comes back with the vertices that stay open in front
 module _ (order part : List ℕ) (count r : ℕ) (within : count ≤ length order)
-    (sized : length part ≡ length (take (count - 0) order)) (fewer : r ≤ length (take (count - 0) order)) where
-  pub back_sized : length (part ++ drop (count - 0) order) ≡ length order
-  back_sized =
-      omega (
-        arith,
-        length-append part (drop (count - 0) order),
-        length-take (count - 0) order,
-        length-drop (count - 0) order,
-      )
+    (sized : length part ≡ length (take count order)) (fewer : r ≤ length (take count order)) where
+  pub back_sized : length (part ++ drop count order) ≡ length order
+  back_sized = omega (arith, length-append part (drop count order), length-take count order, length-drop count order)
 
-  pub back_within : r ≤ length (part ++ drop (count - 0) order)
-  back_within = omega (arith, back_sized, length-take (count - 0) order)
+  pub back_within : r ≤ length (part ++ drop count order)
+  back_within = omega (arith, back_sized, length-take count order)
 
-  pub back_open : take (r - 0) (part ++ drop (count - 0) order) ≡ take r part
-  back_open = rw sub-zero (take-append-le r part (drop (count - 0) order) (omega arith))
+  pub back_open : take r (part ++ drop count order) ≡ take r part
+  back_open = take-append-le r part (drop count order) (omega arith)

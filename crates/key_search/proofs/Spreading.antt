@@ -1,6 +1,6 @@
 -- The pass that writes the pivots of a round, from the first vertex to the last: where it stands before the i-th place,
 -- and one turn.
-use Rattle.std.proofs.Common.{◌≡◌, ℕ, ◌+◌, ◌<◌, ◌≤◌, List, length, set, sym, ◌∙◌, arith, length-set, below_none, below_more}
+use Rattle.std.proofs.Common.{◌≡◌, ℕ, ◌+◌, ◌-◌, ◌<◌, ◌≤◌, max, min, List, length, set, ap, sym, ◌∙◌, arith, length-set, below_none, below_more}
 use Rattle.limits.specs.Limits.{most_arcs}
 use Rattle.key_passes.specs.Passes.{at, Rising, Chosen}
 use Rattle.key_passes.proofs.Places.{written, lower_kept}
@@ -32,8 +32,8 @@ module _ (order links lows highs : List ℕ) where
         same = λ p l. s.same p (omega arith);
       }
 
-  module _ (rises : Rising most_arcs order links) (pivots : List ℕ) (i w : ℕ) (h : i < length order)
-      (s : Spreading pivots i) where
+  module _ {m : ℕ} (few : m ≤ most_arcs) (rises : Rising m order links) (pivots : List ℕ) (i w : ℕ)
+      (h : i < length order) (s : Spreading pivots i) where
     pub spreading_on : (at links (at order i) ≡ 0 → at lows (at order i) < w)
         → (at links (at order i) ≡ 0 → w < at highs (at order i))
         → ((at links (at order i) ≡ 0 → ⊥) → w ≡ at pivots (at links (at order i)))
@@ -51,10 +51,10 @@ module _ (order links lows highs : List ℕ) where
         }
       where
         here : at (set pivots (at order i) w) (at order i) ≡ w
-        here = written rises i h (omega arith) pivots w s.sized
+        here = written rises i h few pivots w 0 s.sized
 
         lower : (u : ℕ) → u < at order i → at (set pivots (at order i) w) u ≡ at pivots u
-        lower = lower_kept order i pivots w
+        lower = lower_kept order i pivots w 0
 
         kept : (p : ℕ) → p < i → at (set pivots (at order i) w) (at order p) ≡ at pivots (at order p)
         kept p l = lower (at order p) (rises.rising p i l h)
@@ -63,3 +63,26 @@ module _ (order links lows highs : List ℕ) where
             → at (set pivots (at order i) w) (at links (at order p)) ≡ at pivots (at links (at order p))
         kept_link p l =
             lower (at links (at order p)) (omega (arith, rises.lower p (omega arith), rises.rising p i l h))
+
+  -- one turn as the loop makes it: v is the vertex at place i, and p its link
+  module _ {m : ℕ} (few : m ≤ most_arcs) (rises : Rising m order links) {pivots : List ℕ} {i v p : ℕ}
+      (h : i < length order) (s : Spreading pivots i) (v_is : v ≡ at order i) (p_is : p ≡ at links v) where
+    p_here : p ≡ at links (at order i)
+    p_here = rw v_is at p_is
+
+    -- a root's pivot is put between its low and its high key
+    pub spreading_root : {w : ℕ} → p ≡ 0 → (guess : ℕ) → at lows (at order i) + 1 < at highs (at order i)
+        → w ≡ max (at lows v + 1) (min guess (at highs v - 1))
+        → Spreading (set pivots v w) (i + 1)
+    spreading_root {w} e guess wide is =
+        let between = rw v_is at is in
+        rw v_is
+        (spreading_on few rises pivots i w h s (λ z. omega arith) (λ z. omega arith)
+        (λ z. absurd (z (omega (arith, p_here)))))
+
+    -- any other has its link's
+    pub spreading_link : {w : ℕ} → (p ≡ 0 → ⊥) → w ≡ at pivots p → Spreading (set pivots v w) (i + 1)
+    spreading_link {w} d is =
+        rw v_is
+        (spreading_on few rises pivots i w h s (λ z. absurd (d (omega (arith, p_here))))
+        (λ z. absurd (d (omega (arith, p_here)))) (λ z. is ∙ ap (at pivots) p_here))

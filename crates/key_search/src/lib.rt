@@ -13,7 +13,7 @@ ghost use Rattle.std.specs.Prelude.{◌≡◌, length};
 ghost use Rattle.tree.specs.Passes.{Sound, Listed, Capped};
 ghost use Rattle.key_search.specs.Shares.{Bounds, level_at};
 
-use key_passes::{KEYS_PER_LEVEL, VERTICES};
+use key_passes::{KEYS_PER_LEVEL, Members, VERTICES};
 use limits::{MOST_ARCS, MOST_SHARE};
 use members::{place_members, read_off};
 use search::search;
@@ -38,20 +38,20 @@ pub fn write_shares(
     ensures { shares.new
         ≡ level_at parents.now vertices.now caps.now bounds.now }
 {
-    let m = parents.len();
-    let mut caps_at = [0u64; VERTICES];
-    let mut numbers_at = [0u16; VERTICES];
+    let mut members = Members {
+        caps: [0u64; VERTICES],
+        numbers: [0u16; VERTICES],
+    };
     let mut order = [0u16; MOST_ARCS];
     let mut keys = [0u64; VERTICES];
-    place_members(vertices, caps, &mut caps_at, &mut numbers_at);
+    place_members(vertices, caps, &mut members);
     search(
         parents,
         vertices,
         caps,
         bounds,
-        &caps_at,
-        &numbers_at,
-        &mut order[0..m],
+        &members,
+        &mut order[..parents.len()],
         &mut keys,
     );
     read_off(vertices, caps, &keys, shares);

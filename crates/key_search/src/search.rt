@@ -7,7 +7,7 @@ ghost use Rattle.key_search.specs.Shares.{Bounds, Found};
 use crate::LAST_KEY;
 use crate::choose::{TURNS, choose};
 use crate::start::open_all;
-use key_passes::{VERTICES, evaluate, keep_open, settle};
+use key_passes::{Flag, Forest, Members, VERTICES, keep_open};
 
 // Writes a key for each vertex, where all were 0. `order` is room for one entry an arc; `vertices` and `caps` are there
 // for the contract, which says by them what the keys are.
@@ -16,8 +16,7 @@ pub fn search(
     vertices: &[u16],
     caps: &[u64],
     bounds: &[u64],
-    caps_at: &[u64; VERTICES],
-    numbers_at: &[u16; VERTICES],
+    members: &Members,
     order: &mut [u16],
     lows: &mut [u64; VERTICES],
 )
@@ -25,7 +24,7 @@ pub fn search(
     requires listed { Listed parents.now vertices.now }
     requires capped { Capped (length vertices.now) caps.now }
     requires bounds { Bounds parents.now vertices.now caps.now bounds.now }
-    requires at_vertices { AtVertices vertices.now caps.now caps_at.now numbers_at.now }
+    requires at_vertices { AtVertices vertices.now caps.now members.now.caps members.now.numbers }
     requires order_len { length order.old ≡ length parents.now }
     requires by_index { (v : ℕ) → at lows.old v ≡ 0 }
     ensures { Found parents.now vertices.now caps.now bounds.now
@@ -38,18 +37,20 @@ pub fn search(
     let mut pivots = [0u64; VERTICES];
     let mut sums = [0u64; VERTICES];
     let mut held = [0u64; VERTICES];
-    let mut flags = [0u16; VERTICES];
+    let mut flags = [Flag::Below; VERTICES];
     let mut roots = [0u16; VERTICES];
     let mut counts = [0u16; VERTICES];
     let mut turn: u32 = 1;
     let mut count = order.len();
     while 0 < count {
-        choose(
-            &order[0..count],
-            &links,
+        let forest = Forest {
+            order: &order[..count],
+            links: &links,
             bounds,
-            caps_at,
-            numbers_at,
+        };
+        choose(
+            &forest,
+            members,
             &rests,
             lows,
             &highs,
@@ -59,29 +60,10 @@ pub fn search(
             &mut counts,
             &mut pivots,
         );
-        evaluate(
-            &order[0..count],
-            &links,
-            bounds,
-            caps_at,
-            numbers_at,
-            &rests,
-            &pivots,
-            &mut sums,
-            &mut held,
-        );
-        settle(
-            &order[0..count],
-            &links,
-            bounds,
-            &pivots,
-            &held,
-            &mut flags,
-            lows,
-            &mut highs,
-        );
+        forest.evaluate(members, &rests, &pivots, &mut sums, &mut held);
+        forest.settle(&pivots, &held, &mut flags, lows, &mut highs);
         count = keep_open(
-            &mut order[0..count],
+            &mut order[..count],
             bounds,
             &flags,
             lows,

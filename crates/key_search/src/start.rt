@@ -15,13 +15,8 @@ pub fn open_all(parents: &[u16], order: &mut [u16], links: &mut [u16; VERTICES])
     ensures by_index { (v : ℕ) → In (length parents.now) v
         → at links.new v ≡ of_arc parents.now v }
 {
-    // As a slice: of an array behind a reference the proof is not told that it has its length.
-    let links: &mut [u16] = links;
-    let mut i = 0;
-    while i < parents.len() {
-        let v = i + 1;
-        order[i] = v as u16;
-        links[v] = parents[i];
-        i += 1;
+    for (i, &parent) in parents.iter().enumerate() {
+        order[i] = (i + 1) as u16;
+        links[i + 1] = parent;
     }
 }

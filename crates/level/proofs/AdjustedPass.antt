@@ -6,7 +6,7 @@ use mathlib.Core.Bool.{true, false}
 use mathlib.Core.Logic.{⊎_elim}
 use mathlib.Core.List.{List}
 use native.Mathlib.Omega.{arith}
-use lib.ListN.{length, get_or}
+use lib.ListN.{length, get_or, set}
 use Rattle.basics.specs.Sum.{list}
 use Rattle.basics.proofs.Bools.{both, pick_yes, pick_le}
 use Rattle.basics.proofs.Sums.{In, sum_bound}
@@ -25,7 +25,7 @@ use Rattle.limits.specs.Inner.{most_whole, most_total}
 use Rattle.tree.specs.Passes.{Sound, Costed, Listed, Capped, network_at}
 use Rattle.tree.proofs.Bounds.{costs_bound}
 use Rattle.tree.proofs.Vertices.{listed_end}
-use Rattle.tree.proofs.InwardPass.{Waiting, Passing, passing_below, passing_carry}
+use Rattle.tree.proofs.InwardPass.{Waiting, Passing, passing_below, passing_carry, passing_on}
 
 -- all costs and all floors together
 abbrev pub most_adjusted : ℕ
@@ -57,11 +57,13 @@ module _ (ps cs vs fs : List ℕ) (sound : Sound ps) (costed : Costed ps cs) (li
       (floors_are : xs ≡ list (length ps) (view n fs)) {k j : ℕ} (within : k ≤ length ps) (next : k ≡ suc j)
       {out below : List ℕ} (waiting : Waiting xs out k) (s : Passing ps (adjusted n fs) out below k) where
     -- the adjusted need that a turn computes
-    pub adjusting_at : {own w : ℕ} → own ≡ max (get_or needs j 0) (get_or out j 0) → w ≡ max own (get_or below k 0)
-        → w ≡ adjusted n fs k
+    pub adjusting_at : {own w : ℕ} → own ≡ max (get_or needs j 0) (get_or out j 0)
+        → w ≡ max own (get_or below (j + 1) 0) → w ≡ adjusted n fs k
     adjusting_at eo ew =
+        let place : j + 1 ≡ k = omega arith in
         omega (
           arith,
+          ap (λ (u : ℕ). get_or below u 0) place,
           ap (λ (l : List ℕ). get_or l j 0) needs_are,
           list_at (need n) 0 (length ps) j (omega arith),
           ap (need n) next,
@@ -89,9 +91,14 @@ module _ (ps cs vs fs : List ℕ) (sound : Sound ps) (costed : Costed ps cs) (li
         sound.few,
       )
 
-  pub adjusting_carry : Capped (length vs) fs → {k j : ℕ} → k ≤ length ps → k ≡ suc j → {out below : List ℕ}
-      → Passing ps (adjusted n fs) out below k → {w : ℕ} → w ≡ adjusted n fs k
-      → get_or below (get_or ps j 0) 0 + w ≤ most_adjusted
-  adjusting_carry capped {j = j} within next s found =
-      passing_carry ps (adjusted n fs) sound within next s found most_adjusted
-      (children_bound capped (get_or ps j 0) (omega (arith, sound.rising j)))
+  module _ {k j : ℕ} (within : k ≤ length ps) (next : k ≡ suc j) {out below : List ℕ}
+      (s : Passing ps (adjusted n fs) out below k) {parent w : ℕ} (up : parent ≡ get_or ps j 0)
+      (found : w ≡ adjusted n fs k) where
+    pub adjusting_carry : Capped (length vs) fs → get_or below parent 0 + w ≤ most_adjusted
+    adjusting_carry capped =
+        rw up
+        (passing_carry ps (adjusted n fs) sound within next s found most_adjusted
+        (children_bound capped (get_or ps j 0) (omega (arith, sound.rising j))))
+
+    pub adjusting_on : Passing ps (adjusted n fs) (set out j w) (set below parent (get_or below parent 0 + w)) j
+    adjusting_on = rw up (passing_on ps (adjusted n fs) sound within next s found)

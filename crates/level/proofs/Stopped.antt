@@ -1,9 +1,10 @@
 -- The arcs from the last down, over the lists of needs, adjusted needs and cap sums.
-use Prim.Native.Nat.{ℕ, zero, suc, ◌≤◌}
+use Prim.Native.Nat.{ℕ, zero, suc, ◌+◌, ◌≤◌}
 use mathlib.Core.Path.{◌≡◌, refl, sym, ap, ◌∙◌}
 use mathlib.Core.Bool.{true, false, ◌&&◌}
 use mathlib.Core.Logic.{⊎_elim}
 use mathlib.Core.List.{List, []}
+use native.Mathlib.Numerals.{add-one}
 use native.Mathlib.Omega.{arith}
 use lib.ListN.{length, get_or}
 use lib.Dec.{eqb, ltb}
@@ -14,11 +15,9 @@ use Rattle.game.specs.Floors.{adjusted}
 use Rattle.basics.proofs.Bools.{both}
 use Rattle.basics.proofs.Lists.{list_at}
 use Rattle.tree.specs.Passes.{network_at}
-use Rattle.answers.specs.Level.{LevelAnswer, split, refusal, cap_sum, stop_or, split_from, list_after}
+use Rattle.answers.specs.Level.{LevelAnswer, split, refusal, cap_sum, stop_or, split_from}
 use Rattle.answers.proofs.LevelStops.{stop_short, stop_high, stop_none}
-use Rattle.level.specs.Stops.{answer_of, stop_from}
-use Rattle.level.specs.declared.stops.Stop.{Stop}
-use Rattle.level.specs.declared.stops.Stop.TheVariants.{Nothing, Refused}
+use Rattle.level.specs.Stops.{stop_from}
 
 -- the first answer where it is a refusal, else the second
 abbrev or_else : LevelAnswer → LevelAnswer → LevelAnswer
@@ -53,27 +52,22 @@ module _ (members : ℕ) (ps ns ds ss : List ℕ) where
   unfolding stop_from
   none_left e = rw e
 
-  -- at an arc, where r is what was found there
-  module _ (k j : ℕ) (r : Stop) (next : k ≡ suc j)
-      (is : answer_of members r ≡ stop_or k (get_or ps j 0) (get_or ns j 0) (get_or ds j 0) (get_or ss j 0) (split members)) where
-    here : stop_from members ps ns ds ss k ≡ or_else (answer_of members r) (stop_from members ps ns ds ss j)
+  -- at an arc, by what is found there
+  module _ (k j : ℕ) (next : k ≡ suc j) {found : LevelAnswer}
+      (is : found ≡ stop_or (j + 1) (get_or ps j 0) (get_or ns j 0) (get_or ds j 0) (get_or ss j 0) (split members)) where
+    here : stop_from members ps ns ds ss k ≡ or_else found (stop_from members ps ns ds ss j)
     unfolding stop_from
     here =
-        rw (is, next)
+        rw (is, next, add-one j)
         (stop_or_lem (suc j) (get_or ps j 0) (get_or ns j 0) (get_or ds j 0) (get_or ss j 0) members
         (stop_from members ps ns ds ss j))
 
-    pub stop_here : {number arc shortfall : ℕ} → r ≡ Refused number arc shortfall
-        → answer_of members r ≡ stop_from members ps ns ds ss k
+    pub stop_here : {number arc shortfall : ℕ} → found ≡ refusal number arc shortfall
+        → found ≡ stop_from members ps ns ds ss k
     stop_here e = sym (here ∙ rw e)
 
-    pub stop_later : r ≡ Nothing → stop_from members ps ns ds ss k ≡ stop_from members ps ns ds ss j
+    pub stop_later : found ≡ split members → stop_from members ps ns ds ss k ≡ stop_from members ps ns ds ss j
     stop_later e = here ∙ rw e
-
--- a refusal leaves the list as it came
-pub list_kept : {r : Stop} {number arc shortfall : ℕ} → r ≡ Refused number arc shortfall
-    → (members : ℕ) (out shares : List ℕ) → out ≡ list_after (answer_of members r) out shares
-list_kept e members out shares = rw e
 
 -- over the lists of a network
 module _ (ps cs vs caps floors : List ℕ) where

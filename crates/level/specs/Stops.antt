@@ -1,13 +1,6 @@
 -- What stops the level split, over the lists that the passes write.
 use Rattle.std.specs.Prelude.{ℕ, zero, suc, List, get_or}
-use Rattle.answers.specs.Level.{LevelAnswer, split, refusal, stop_or}
-use Rattle.level.specs.declared.stops.Stop.{Stop}
-use Rattle.level.specs.declared.stops.Stop.TheVariants.{Nothing, Refused}
-
--- the split's answer: the number of members, or the refusal
-abbrev pub answer_of : ℕ → Stop → LevelAnswer
-answer_of members Nothing = split members
-answer_of members (Refused number arc shortfall) = refusal number arc shortfall
+use Rattle.answers.specs.Level.{LevelAnswer, split, stop_or}
 
 -- the arcs from k down, by the lists of parents, needs, adjusted needs and cap sums
 unfoldable pub stop_from : (members : ℕ) (parents needs adjusted sums : List ℕ) → ℕ → LevelAnswer

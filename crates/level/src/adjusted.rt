@@ -30,13 +30,10 @@ pub fn write_adjusted(
 {
     tree::write_at_members(parents, vertices, floors, out);
     let mut below = [0u64; MOST_ARCS + 1];
-    let mut k = parents.len() + 1;
-    while k > 1 {
-        k -= 1;
-        let own = numbers::greater_of(needs[k - 1], out[k - 1]);
-        let adjusted = numbers::greater_of(own, below[k]);
-        out[k - 1] = adjusted;
-        let p = parents[k - 1] as usize;
-        below[p] = below[p] + adjusted;
+    for i in (0..parents.len()).rev() {
+        let own = needs[i].max(out[i]);
+        let adjusted = own.max(below[i + 1]);
+        out[i] = adjusted;
+        below[usize::from(parents[i])] += adjusted;
     }
 }

@@ -2,8 +2,9 @@
 #![tactic(auto)]
 
 mod adjusted;
+mod refusal;
 mod shares;
 mod stops;
 
+pub use refusal::LevelRefusal;
 pub use shares::write_level;
-pub use stops::Stop;

@@ -3,9 +3,10 @@ ghost use Rattle.std.specs.Prelude.{◌≡◌, length};
 ghost use Rattle.game.specs.Network.{member_count};
 ghost use Rattle.tree.specs.Passes.{Sound, Costed, Listed, Capped, network_at};
 ghost use Rattle.answers.specs.Level.{split_from, list_after, level_shares};
-ghost use Rattle.level.specs.Stops.{answer_of};
+ghost use Rattle.level.specs.Refusals.{answer_of};
 
-use crate::stops::{Stop, find_stop};
+use crate::refusal::LevelRefusal;
+use crate::stops::find_stop;
 use limits::MOST_ARCS;
 
 // `adjusted` is room for one entry an arc.
@@ -17,7 +18,7 @@ fn write_at(
     floors: &[u64],
     adjusted: &mut [u64],
     shares: &mut [u64],
-) -> Stop
+) -> Result<(), LevelRefusal>
     requires sound { Sound parents.now }
     requires costed { Costed parents.now costs.now }
     requires listed { Listed parents.now vertices.now }
@@ -32,12 +33,9 @@ fn write_at(
         shares.new ≡ list_after (answer_of (member_count n) result) shares.old
         (level_shares n caps.now floors.now) }
 {
-    let stop = find_stop(parents, costs, vertices, caps, floors, adjusted);
-    let Stop::Nothing = stop else {
-        return stop;
-    };
+    find_stop(parents, costs, vertices, caps, floors, adjusted)?;
     key_search::write_shares(parents, vertices, caps, adjusted, shares);
-    Stop::Nothing
+    Ok(())
 }
 
 // Writes one share a member where nothing stops the split; answers what does.
@@ -48,7 +46,7 @@ pub fn write_level(
     caps: &[u64],
     floors: &[u64],
     shares: &mut [u64],
-) -> Stop
+) -> Result<(), LevelRefusal>
     requires sound { Sound parents.now }
     requires costed { Costed parents.now costs.now }
     requires listed { Listed parents.now vertices.now }

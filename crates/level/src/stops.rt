@@ -6,50 +6,41 @@ ghost use Rattle.game.specs.Network.{member_count};
 ghost use Rattle.game.specs.Floors.{adjusted};
 ghost use Rattle.tree.specs.Passes.{Sound, Costed, Listed, Capped, network_at};
 ghost use Rattle.answers.specs.Level.{split, stop_or, split_from};
-ghost use Rattle.level.specs.Stops.{answer_of, stop_from};
+ghost use Rattle.level.specs.Refusals.{answer_of};
+ghost use Rattle.level.specs.Stops.{stop_from};
 
 use crate::adjusted::write_adjusted;
-use answer_forms::refusals;
+use crate::refusal::LevelRefusal;
+use answer_forms::Reason;
 use limits::MOST_ARCS;
 
-#[derive(Clone, Copy)]
-pub enum Stop {
-    Nothing,
-    // 9 or 28; the shortfall is 0 with 28.
-    Refused {
-        number: u32,
-        arc: usize,
-        shortfall: u64,
-    },
-}
-
 // 9, then 28, at one arc.
-fn stop_at(arc: usize, parent: u16, need: u64, adjusted: u64, caps: u64) -> Stop
+fn stop_at(arc: usize, parent: u16, need: u64, adjusted: u64, caps: u64) -> Result<(), LevelRefusal>
     ensures { (members : ℕ) → answer_of members result
         ≡ stop_or arc parent need adjusted caps (split members) }
 {
     if caps < adjusted {
-        return Stop::Refused {
-            number: refusals::CAPS_SHORT,
-            arc,
+        return Err(LevelRefusal {
+            refusal: Reason::CapsShort.at(arc),
             shortfall: adjusted - caps,
-        };
+        });
     }
     if 0 < parent {
-        return Stop::Nothing;
+        return Ok(());
     }
     if need < adjusted {
-        return Stop::Refused {
-            number: refusals::FLOORS_ABOVE_NEED,
-            arc,
-            shortfall: 0,
-        };
+        return Err(Reason::FloorsAboveNeed.at(arc).into());
     }
-    Stop::Nothing
+    Ok(())
 }
 
 // The arcs from the last down, by their needs, adjusted needs and cap sums.
-fn first_stop(parents: &[u16], needs: &[u64], adjusted: &[u64], sums: &[u64]) -> Stop
+fn first_stop(
+    parents: &[u16],
+    needs: &[u64],
+    adjusted: &[u64],
+    sums: &[u64],
+) -> Result<(), LevelRefusal>
     requires needs_len { length needs.now ≡ length parents.now }
     requires adjusted_len { length adjusted.now ≡ length parents.now }
     requires sums_len { length sums.now ≡ length parents.now }
@@ -57,21 +48,10 @@ fn first_stop(parents: &[u16], needs: &[u64], adjusted: &[u64], sums: &[u64]) ->
         ≡ stop_from members parents.now needs.now adjusted.now sums.now
         (length parents.now) }
 {
-    let mut k = parents.len();
-    while 0 < k {
-        let stop = stop_at(
-            k,
-            parents[k - 1],
-            needs[k - 1],
-            adjusted[k - 1],
-            sums[k - 1],
-        );
-        let Stop::Nothing = stop else {
-            return stop;
-        };
-        k -= 1;
+    for i in (0..parents.len()).rev() {
+        stop_at(i + 1, parents[i], needs[i], adjusted[i], sums[i])?;
     }
-    Stop::Nothing
+    Ok(())
 }
 
 // `needs` and `sums` are room for one entry an arc.
@@ -84,7 +64,7 @@ fn compare(
     needs: &mut [u64],
     sums: &mut [u64],
     out: &mut [u64],
-) -> Stop
+) -> Result<(), LevelRefusal>
     requires sound { Sound parents.now }
     requires costed { Costed parents.now costs.now }
     requires listed { Listed parents.now vertices.now }
@@ -114,7 +94,7 @@ pub fn find_stop(
     caps: &[u64],
     floors: &[u64],
     out: &mut [u64],
-) -> Stop
+) -> Result<(), LevelRefusal>
     requires sound { Sound parents.now }
     requires costed { Costed parents.now costs.now }
     requires listed { Listed parents.now vertices.now }

@@ -1,10 +1,7 @@
 -- The widest margin of an arc between two margins, of which the lower is possible and the upper is not.
-use Prim.Native.Nat.{ℕ, suc, ◌+◌, ◌-◌, ◌≤◌, ◌<◌}
-use mathlib.Core.Path.{◌≡◌, refl, ap}
-use mathlib.Core.Bool.{Bool, true, false, cond}
+use Prim.Native.Nat.{ℕ, suc, ◌+◌, ◌≤◌, ◌<◌}
+use mathlib.Core.Path.{◌≡◌, ap}
 use native.Mathlib.Omega.{arith}
-use borrow.Author.Tests.{leb-true, leb-false}
-use lib.Dec.{leb}
 use Rattle.basics.proofs.Sums.{In}
 use Rattle.game.specs.Network.{Network, need}
 use Rattle.game.specs.ByArc.{user_count}
@@ -23,38 +20,25 @@ module _ (n : Network) (arc : ℕ) where
   module _ {wanted low high : ℕ} (b : Between wanted low high) {middle value : ℕ} (above : low < middle)
       (under : middle < high) (tried : value ≡ raised n middle arc) where
     -- the one in the middle takes the place of the lower where it is possible, else of the upper
-    next : (P : ℕ → ℕ → Type 0) → (t : Bool) → (t ≡ true → P middle high) → (t ≡ false → P low middle)
-        → P (cond t middle low) (cond t high middle)
-    next P true up down = up refl
-    next P false up down = down refl
+    pub between_up : value ≤ wanted → Between wanted middle high
+    between_up h =
+        record {
+          is_need = b.is_need;
+          apart = under;
+          within = b.within;
+          possible = omega arith;
+          impossible = b.impossible;
+        }
 
-    module _ {low' high' : ℕ} (el : low' ≡ cond (leb value wanted) middle low)
-        (eh : high' ≡ cond (leb value wanted) high middle) where
-      pub between_on : Between wanted low' high'
-      between_on =
-          rw (el, eh)
-          (next (Between wanted) (leb value wanted)
-          (λ t.
-          record {
-            is_need = b.is_need;
-            apart = under;
-            within = b.within;
-            possible = omega (arith, leb-true value wanted t);
-            impossible = b.impossible;
-          })
-          (λ t.
-          record {
-            is_need = b.is_need;
-            apart = above;
-            within = omega arith;
-            possible = b.possible;
-            impossible = λ h p. omega (arith, leb-false value wanted t);
-          }))
-
-      pub between_less : high' - low' < high - low
-      between_less =
-          rw (el, eh)
-          (next (λ l h. h - l < high - low) (leb value wanted) (λ t. omega arith) (λ t. omega arith))
+    pub between_down : wanted < value → Between wanted low middle
+    between_down h =
+        record {
+          is_need = b.is_need;
+          apart = above;
+          within = omega arith;
+          possible = b.possible;
+          impossible = λ l p. omega arith;
+        }
 
   module _ (rooted : Rooted n) (i : In n.arcs arc) where
     pub between_start : {wanted : ℕ} → wanted ≡ need n arc → Between wanted 0 (wanted + 1)

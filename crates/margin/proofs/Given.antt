@@ -17,9 +17,9 @@ use Rattle.game.proofs.Inward.{children_mono}
 use Rattle.game.proofs.Raised.{raised_limit}
 use Rattle.limits.specs.Limits.{most_arcs, most_cost}
 use Rattle.limits.specs.Inner.{most_whole}
-use Rattle.tree.specs.Passes.{network_at}
+use Rattle.tree.specs.Passes.{Sound, Costed, Listed, network_at}
 use Rattle.tree.proofs.Bounds.{costs_bound}
-use Rattle.margin.specs.Passes.{Given}
+use Rattle.margin.specs.Passes.{Measured, Given}
 
 -- what f's list holds for arc k
 pub entry_of : {l : List ℕ} (m : ℕ) (f : ℕ → ℕ) → l ≡ list m f → {k i : ℕ} → k ≤ m → k ≡ suc i → get_or l i 0 ≡ f k
@@ -28,6 +28,11 @@ entry_of m f e {k} {i} h next = ap (λ (l : List ℕ). get_or l i 0) e ∙ list_
 -- each arc's cost and a margin, for the most arcs
 abbrev pub most_raised : ℕ
 most_raised = most_arcs * (most_cost + most_whole)
+
+pub given_of : {ps cs vs needs counts : List ℕ} → Sound ps → Costed ps cs → Listed ps vs
+    → Measured ps cs vs needs counts → Given ps cs vs needs counts
+given_of sound costed listed measured =
+    record { sound = sound; costed = costed; listed = listed; measured = measured }
 
 module _ {ps cs vs needs counts : List ℕ} (given : Given ps cs vs needs counts) where
   abbrev n : Network

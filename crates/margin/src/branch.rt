@@ -8,19 +8,6 @@ ghost use Rattle.tree.specs.Passes.{Sound};
 
 use limits::MOST_ARCS;
 
-// The vertex is the one that the arc enters, or its parent is in the branch.
-fn in_branch(v: usize, arc: usize, parent_is: bool) -> bool
-    ensures { result ≡ (eqb arc v || parent_is) }
-{
-    if arc == v { true } else { parent_is }
-}
-
-fn mark_if(inside: bool, mark: u16) -> u16
-    ensures { result ≡ pick inside mark }
-{
-    if inside { mark } else { 0 }
-}
-
 // Writes the marks of the vertices at or below the arc, and 0 for the others.
 pub fn write_branch_marks(parents: &[u16], marks: &[u16], arc: usize, out: &mut [u16])
     requires sound { Sound parents.now }
@@ -30,12 +17,10 @@ pub fn write_branch_marks(parents: &[u16], marks: &[u16], arc: usize, out: &mut 
     ensures { out.new ≡ branch_marks (tree_of parents.now [] marks.now) arc }
 {
     let mut inside = [false; MOST_ARCS + 1];
-    let mut i = 0;
-    while i < parents.len() {
-        let p = parents[i] as usize;
-        let here = in_branch(i + 1, arc, inside[p]);
+    for i in 0..parents.len() {
+        // The arc enters the vertex, or its parent is in the branch.
+        let here = arc == i + 1 || inside[usize::from(parents[i])];
         inside[i + 1] = here;
-        out[i] = mark_if(here, marks[i]);
-        i += 1;
+        out[i] = if here { marks[i] } else { 0 };
     }
 }

@@ -1,5 +1,5 @@
 // The raised needs at a margin, in one pass from the last arc down: an arc's raised need is carried to its parent.
-ghost use Rattle.std.specs.Prelude.{◌≡◌, ◌+◌, ◌≤◌, length, ltb};
+ghost use Rattle.std.specs.Prelude.{◌≡◌, ◌+◌, ◌≤◌, max, length, ltb};
 ghost use Rattle.basics.specs.Sum.{pick, list};
 ghost use Rattle.game.specs.Margin.{raised};
 ghost use Rattle.limits.specs.Inner.{most_whole};
@@ -8,20 +8,15 @@ ghost use Rattle.margin.specs.Passes.{Given};
 
 use limits::MOST_ARCS;
 
-// The need, with the margin where some member does not use the arc.
-fn own_need(need: u64, count: u64, users: u64, margin: u64) -> u64
+// The need, with the margin where some member does not use the arc, or what the child arcs carried to it if that is
+// more; nothing where the arc has no users.
+fn raised_need(need: u64, count: u64, users: u64, margin: u64, carried: u64) -> u64
     requires need_le_most_whole { need ≤ most_whole }
     requires margin_le_most_whole { margin ≤ most_whole }
-    ensures { result ≡ need + pick (ltb count users) margin }
+    ensures { result ≡ pick (ltb 0 count) (max (need + pick (ltb count users) margin) carried) }
 {
-    if count < users { need + margin } else { need }
-}
-
-// An amount that an arc has where it has users, else 0.
-fn if_used(count: u64, amount: u64) -> u64
-    ensures { result ≡ pick (ltb 0 count) amount }
-{
-    if 0 < count { amount } else { 0 }
+    let own = if count < users { need + margin } else { need };
+    if 0 < count { own.max(carried) } else { 0 }
 }
 
 // Writes the raised need of each arc. Costs and vertices stand for the network; the pass reads the needs, the numbers
@@ -43,14 +38,9 @@ pub fn write_raised(
 {
     let users = vertices.len() as u64;
     let mut below = [0u64; MOST_ARCS + 1];
-    let mut k = parents.len() + 1;
-    while k > 1 {
-        k -= 1;
-        let count = counts[k - 1];
-        let own = own_need(needs[k - 1], count, users, margin);
-        let need = if_used(count, numbers::greater_of(own, below[k]));
-        out[k - 1] = need;
-        let p = parents[k - 1] as usize;
-        below[p] = below[p] + need;
+    for i in (0..parents.len()).rev() {
+        let raised = raised_need(needs[i], counts[i], users, margin, below[i + 1]);
+        out[i] = raised;
+        below[usize::from(parents[i])] += raised;
     }
 }

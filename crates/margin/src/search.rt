@@ -9,13 +9,6 @@ ghost use Rattle.margin.specs.Passes.{Measured};
 
 use crate::raise::write_raised;
 
-// a where the raised need is at most the need, else b.
-fn if_possible(raised: u64, need: u64, a: u64, b: u64) -> u64
-    ensures { result ≡ cond (leb raised need) a b }
-{
-    if raised <= need { a } else { b }
-}
-
 // Answers the widest margin and writes the raised needs at it. Between two margins of which the lower is possible and
 // the upper is not, the one in the middle is tried.
 pub fn find_margin(
@@ -44,9 +37,11 @@ pub fn find_margin(
     while low + 1 < high {
         let middle = low + (high - low) / 2;
         write_raised(parents, costs, vertices, needs, counts, middle, out);
-        let raised = out[arc - 1];
-        low = if_possible(raised, need, middle, low);
-        high = if_possible(raised, need, high, middle);
+        if out[arc - 1] <= need {
+            low = middle;
+        } else {
+            high = middle;
+        }
     }
     write_raised(parents, costs, vertices, needs, counts, low, out);
     low

@@ -73,7 +73,7 @@ fn split_at_widest(
         &mut counts[0..m],
         raised,
     );
-    tree::write_all(caps, MOST_SHARE);
+    caps.fill(MOST_SHARE);
     key_search::write_shares(parents, vertices, caps, raised, shares);
     margin
 }

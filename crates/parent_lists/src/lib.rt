@@ -1,29 +1,25 @@
 // The step from a parent list to the next one of as many arcs, in the list itself.
 #![tactic(auto)]
 
-ghost use Rattle.std.specs.Prelude.{◌≡◌, true, false, ℕ, suc, ◌<◌, ◌≤◌, length, leb};
+ghost use Rattle.std.specs.Prelude.{◌≡◌, true, false, length, leb, MatchOption};
 ghost use Rattle.std.proofs.Math.Option.{Option-elim, get_or};
 ghost use Rattle.basics.specs.Sum.{pick, list};
 ghost use Rattle.game.specs.Tree.{of_arc};
 ghost use Rattle.answers.specs.ParentLists.{following};
 ghost use Rattle.tree.specs.Passes.{Sound};
+ghost use Rattle.parent_lists.specs.Rising.{FullBehind, Rises};
 
-// The highest arc with a vertex above its parent and below the arc; 0 where there is none.
-fn rising_arc(parents: &[u16]) -> usize
+// The highest arc with a vertex above its parent and below the arc.
+fn rising_arc(parents: &[u16]) -> Option<usize>
     requires { Sound parents.now }
-    ensures upper_bound { result ≤ length parents.now }
-    ensures lower_bound { 0 < result → suc (of_arc parents.now result) < result }
-    ensures by_index { (k : ℕ) → result < k → k ≤ length parents.now
-        → suc (of_arc parents.now k) ≡ k }
+    ensures { MatchOption result (FullBehind parents.now 0) (Rises parents.now) }
 {
-    let mut k = parents.len();
-    while 0 < k {
-        if parents[k - 1] as usize + 1 < k {
-            return k;
+    for arc in (1..parents.len() + 1).rev() {
+        if usize::from(parents[arc - 1]) + 1 < arc {
+            return Some(arc);
         }
-        k -= 1;
     }
-    0
+    None
 }
 
 // 0 at the arcs above this one.
@@ -31,10 +27,8 @@ fn clear_behind(parents: &mut [u16], arc: usize)
     ensures { parents.new ≡ list (length parents.old)
         (λ k. pick (leb k arc) (of_arc parents.old k)) }
 {
-    let mut i = arc;
-    while i < parents.len() {
-        parents[i] = 0;
-        i += 1;
+    if arc < parents.len() {
+        parents[arc..].fill(0);
     }
 }
 
@@ -45,10 +39,9 @@ pub fn step(parents: &mut [u16]) -> bool
     ensures parents_after { parents.new
         ≡ get_or (following parents.old) parents.old }
 {
-    let arc = rising_arc(parents);
-    if arc == 0 {
+    let Some(arc) = rising_arc(parents) else {
         return false;
-    }
+    };
     clear_behind(parents, arc);
     parents[arc - 1] += 1;
     true

@@ -18,7 +18,7 @@ pub fn less(a: u64, b: u64) -> i64
 }
 
 // The sums of the positive and of the negative parts.
-#[derive(Clone, Copy)]
+#[derive(Clone, Copy, Debug, PartialEq, Eq)]
 pub struct Parts {
     pub plus: u64,
     pub minus: u64,
@@ -31,11 +31,9 @@ pub fn parts_of(proposal: &[i64]) -> Parts
 {
     let mut above: u64 = 0;
     let mut below: u64 = 0;
-    let mut i = 0;
-    while i < proposal.len() {
-        above += numbers::plus(proposal[i]);
-        below += numbers::minus(proposal[i]);
-        i += 1;
+    for share in proposal {
+        above += numbers::plus(*share);
+        below += numbers::minus(*share);
     }
     Parts {
         plus: above,

@@ -2,13 +2,14 @@
 ghost use Rattle.std.specs.Prelude.{cond, [], ◌+◌, ◌*◌, ◌%◌, ◌≤◌, length};
 ghost use Rattle.basics.specs.Bit.{digit};
 ghost use Rattle.answer_forms.specs.Answer.{value};
-ghost use Rattle.engine.specs.Outcomes.{total_of, search_of};
+ghost use Rattle.answer_forms.specs.Checked.{answer_of};
+ghost use Rattle.engine.specs.Outcomes.{search_of};
 ghost use Rattle.buffer.specs.Put.{Put};
 ghost use Rattle.report_lines.specs.Lines.{labelled, group_text, group_line, total_text, search_text, audit_text};
 ghost use Rattle.limits.specs.Limits.{most_arcs, group_bits};
 
 use crate::line::put_refused;
-use engine::{GroupFound, Searched, TotalFound};
+use engine::{Refusal, Searched};
 
 // A space and the number where the member's bit in its word is set.
 fn put_if(out: &mut [u8], at: usize, word: u64, j: usize) -> usize
@@ -31,10 +32,8 @@ fn put_group(out: &mut [u8], at: usize, words: [u64; 16], members: usize) -> usi
     ensures upper_bound { result ≤ at + 21 * members }
 {
     let mut next = at;
-    let mut j = 0;
-    while j < members {
+    for j in 0..members {
         next = put_if(out, next, words[j / 64], j);
-        j += 1;
     }
     next
 }
@@ -65,21 +64,21 @@ fn put_difference(out: &mut [u8], at: usize, difference: i64) -> usize
     ensures put { Put out.old at (total_text (value difference)) out.new result }
     ensures upper_bound { result ≤ at + 100 }
 {
-    if numbers::is_zero(difference) {
+    if difference == 0 {
         return at;
     }
     let a = text::put_labelled_signed(out, at, b"audit total ", difference);
     buffer::put(out, a, b"\n")
 }
 
-fn put_total(out: &mut [u8], at: usize, total: TotalFound) -> usize
+fn put_total(out: &mut [u8], at: usize, total: Result<i64, Refusal>) -> usize
     requires { at + 100 ≤ length out.old }
-    ensures put { Put out.old at (total_text (total_of «total»)) out.new result }
+    ensures put { Put out.old at (total_text (answer_of «total»)) out.new result }
     ensures upper_bound { result ≤ at + 100 }
 {
     match total {
-        TotalFound::Difference(difference) => put_difference(out, at, difference),
-        TotalFound::Refused(r) => put_refused(out, at, r.number, r.place),
+        Ok(difference) => put_difference(out, at, difference),
+        Err(refusal) => put_refused(out, at, refusal),
     }
 }
 
@@ -91,14 +90,17 @@ fn put_search(out: &mut [u8], at: usize, members: usize, searched: Searched) -> 
         (search_text members (search_of searched.answer) searched.group) out.new result }
     ensures upper_bound { result ≤ at + 21900 }
 {
-    let answer = searched.answer;
-    let group = searched.group;
-    match answer {
-        GroupFound::Group { amount, size } => {
-            put_group_line(out, at, amount, size, group, members)
-        }
-        GroupFound::NoGroup => at,
-        GroupFound::Refused(r) => put_refused(out, at, r.number, r.place),
+    match searched.answer {
+        Ok(Some(found)) => put_group_line(
+            out,
+            at,
+            found.amount,
+            found.size,
+            searched.group,
+            members,
+        ),
+        Ok(None) => at,
+        Err(refusal) => put_refused(out, at, refusal),
     }
 }
 
@@ -107,13 +109,13 @@ pub fn put_audit(
     out: &mut [u8],
     at: usize,
     members: usize,
-    total: TotalFound,
+    total: Result<i64, Refusal>,
     searched: Searched,
 ) -> usize
     requires members_le_most_arcs { members ≤ most_arcs }
     requires at_in_bounds { at + 22000 ≤ length out.old }
     ensures put { Put out.old at
-        (audit_text members (total_of «total») (search_of searched.answer) searched.group) out.new result }
+        (audit_text members (answer_of «total») (search_of searched.answer) searched.group) out.new result }
     ensures upper_bound { result ≤ at + 22000 }
 {
     let a = put_total(out, at, total);

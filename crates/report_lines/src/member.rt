@@ -4,23 +4,23 @@ ghost use Rattle.engine.specs.Outcomes.{level_of};
 ghost use Rattle.buffer.specs.Put.{Put};
 ghost use Rattle.report_lines.specs.Lines.{level_share, member_line, member_lines};
 
-use engine::LevelSplit;
+use engine::LevelRefusal;
 
-fn put_share(out: &mut [u8], at: usize, level: LevelSplit, share: u64) -> usize
+fn put_share(out: &mut [u8], at: usize, level: Result<usize, LevelRefusal>, share: u64) -> usize
     requires { at + 30 ≤ length out.old }
     ensures put { Put out.old at (level_share (level_of «level») share) out.new result }
     ensures upper_bound { result ≤ at + 30 }
 {
     match level {
-        LevelSplit::Split(_) => text::put_labelled(out, at, b" level ", share),
-        LevelSplit::Refused { .. } => buffer::put(out, at, b" level -"),
+        Ok(_) => text::put_labelled(out, at, b" level ", share),
+        Err(_) => buffer::put(out, at, b" level -"),
     }
 }
 
 fn put_member(
     out: &mut [u8],
     at: usize,
-    level: LevelSplit,
+    level: Result<usize, LevelRefusal>,
     j: usize,
     vertex: u16,
     proposed: i64,
@@ -44,7 +44,7 @@ fn put_member(
 pub fn put_members(
     out: &mut [u8],
     at: usize,
-    level: LevelSplit,
+    level: Result<usize, LevelRefusal>,
     vertices: &[u16],
     proposed: &[i64],
     by_arc: &[u64],
@@ -59,8 +59,7 @@ pub fn put_members(
         shares.now (length proposed.now)) out.new result }
 {
     let mut next = at;
-    let mut j = 0;
-    while j < proposed.len() {
+    for j in 0..proposed.len() {
         next = put_member(
             out,
             next,
@@ -71,7 +70,6 @@ pub fn put_members(
             by_arc[j],
             shares[j],
         );
-        j += 1;
     }
     next
 }

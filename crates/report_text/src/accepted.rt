@@ -79,8 +79,9 @@ fn put_splits(
         (split_text (tree_of parents.now costs.now marks.now) caps.now
         proposed.now) out.new result }
 {
-    engine::list_members(parents, costs, marks, vertices);
-    engine::split_by_arc(parents, costs, marks, by_arc);
+    // The tree is accepted and the lists have their lengths, so neither refuses.
+    let _ = engine::list_members(parents, costs, marks, vertices);
+    let _ = engine::split_by_arc(parents, costs, marks, by_arc);
     let level = engine::split_level(parents, costs, marks, caps, floors, shares);
     let next = put_level(out, at, level);
     put_members(out, next, level, vertices, proposed, by_arc, shares)
@@ -140,6 +141,7 @@ pub fn put_job(
 {
     let arcs = parents.len();
     let mut marks = [0u16; MOST_ARCS];
-    engine::mark_dead_ends(parents, costs, &mut marks[0..arcs]);
+    // It refuses nothing: the tree is accepted.
+    let _ = engine::mark_dead_ends(parents, costs, &mut marks[0..arcs]);
     put_marked(parents, costs, &marks[0..arcs], caps, proposed, out)
 }

@@ -9,7 +9,6 @@ ghost use Rattle.report_text.specs.Report.{report_text};
 ghost use Rattle.limits.specs.Limits.{most_arcs};
 
 use accepted::put_job;
-use job::JobRead;
 use limits::MOST_ARCS;
 use report_lines::put_refused;
 
@@ -32,16 +31,19 @@ fn put_report(
     requires in_bounds { 190000 ≤ length out.old }
     ensures { Put out.old 0 (report_text bytes.now) out.new result }
 {
-    let read = job::read(bytes, parents, costs, caps, proposed);
-    match read {
-        JobRead::Read { arcs, members, .. } => put_job(
-            &parents[0..arcs],
-            &costs[0..arcs],
-            &caps[0..members],
-            &proposed[0..members],
-            out,
-        ),
-        JobRead::Refused(r) => put_refused(out, 0, r.number, r.place),
+    match job::read(bytes, parents, costs, caps, proposed) {
+        Ok(read) => {
+            let arcs = read.arcs;
+            let members = read.members;
+            put_job(
+                &parents[0..arcs],
+                &costs[0..arcs],
+                &caps[0..members],
+                &proposed[0..members],
+                out,
+            )
+        }
+        Err(refusal) => put_refused(out, 0, refusal),
     }
 }
 

@@ -5,6 +5,8 @@ use mathlib.Core.Bool.{Bool, true, false, ◌&&◌, ◌||◌, and-true, and-fals
 use mathlib.Core.Logic.{⊎_elim}
 use mathlib.Core.List.{List, []}
 use native.Mathlib.Decide.{dec_le}
+use native.Mathlib.Nat.{add-zero}
+use native.Mathlib.Numerals.{add-one}
 use native.Mathlib.Omega.{arith}
 use borrow.Author.Tests.{eqb-true, eq-eqb, ne_eqb, lt-ltb}
 use lib.ListN.{length, get_or, set, replicate, length-set}
@@ -15,7 +17,7 @@ use Rattle.game.specs.Network.{Network, number}
 use Rattle.game.specs.Tree.{network_of, of_arc, marked}
 use Rattle.basics.specs.Bit.{bit}
 use Rattle.game.specs.Group.{words_of}
-use Rattle.basics.proofs.Bools.{both, and_both, pick_yes}
+use Rattle.basics.proofs.Bools.{both, and_both, pick_yes, pick_no}
 use Rattle.basics.proofs.Sums.{In, sum_longer}
 use Rattle.game.proofs.Encoding.{bit_none, none_encoded}
 use Rattle.game.proofs.Numbering.{before_member}
@@ -161,7 +163,7 @@ module _ (ps ms excesses : List ℕ) where
           ∙ s.none_beyond u (omega arith))
           (both (eqb (get_or ms i 0) 1))
 
-      pub choosing_on : words' ≡ words_of (bit words') → Choosing (set active (suc i) on) words' (j + w) (suc i)
+      choosing_on : words' ≡ words_of (bit words') → Choosing (set active (suc i) on) words' (j + w) (suc i)
       unfolding after
       choosing_on encodes =
           record {
@@ -173,3 +175,24 @@ module _ (ps ms excesses : List ℕ) where
             none_beyond = none_on;
             encoded = encodes;
           }
+
+  -- arc i + 1, as the code writes its place
+  module _ (sound : Sound ps) (i : ℕ) (within : i < length ps) {active : List Bool} {words : List ℕ} {j : ℕ}
+      (s : Choosing active words j i) {on : Bool}
+      (is_on : on ≡ (ltb 0 (get_or excesses (i + 1) 0) && get_or active (get_or ps i 0) false)) where
+    pub choosing_member : get_or ms i 0 ≡ 1 → (words' : List ℕ)
+        → ((u : ℕ) → bit words' u ≡ (bit words u || (on && (eqb u j && ltb j 1024)))) → words' ≡ words_of (bit words')
+        → Choosing (set active (i + 1) on) words' (j + 1) (i + 1)
+    choosing_member m words' put encodes =
+        let is_member : eqb (get_or ms i 0) 1 ≡ true = eq-eqb (get_or ms i 0) 1 m in
+        rw (add-one i)
+        (choosing_on sound i within s (rw (add-one i) at is_on)
+        (sym (ap (λ (b : Bool). on && b) is_member ∙ and-true on)) words' put (sym (pick_yes 1 is_member)) encodes)
+
+    pub choosing_other : (get_or ms i 0 ≡ 1 → ⊥) → Choosing (set active (i + 1) on) words j (i + 1)
+    choosing_other m =
+        let no_member : eqb (get_or ms i 0) 1 ≡ false = ne_eqb (get_or ms i 0) 1 m in
+        rw (add-one i)
+        (rw add-zero at (choosing_on sound i within s (rw (add-one i) at is_on)
+        (sym (ap (λ (b : Bool). on && b) no_member ∙ and-false on)) words (λ u. sym (or-false (bit words u)))
+        (sym (pick_no 1 no_member)) s.encoded))

@@ -1,11 +1,12 @@
 -- The excesses in a pass from the last arc down that carries each to the arc's parent.
 use Prim.Native.Nat.{ℕ, suc, ◌+◌, ◌-◌, ◌≤◌, ◌<◌}
 use mathlib.Core.Path.{◌≡◌, refl, sym, ap, ap₂, ◌∙◌, subst}
-use mathlib.Core.Bool.{true}
+use mathlib.Core.Bool.{true, false}
 use mathlib.Core.List.{List}
 use native.Mathlib.Decide.{ℕ_discrete}
+use native.Mathlib.Numerals.{add-one}
 use native.Mathlib.Omega.{arith}
-use borrow.Author.Tests.{eq-eqb}
+use borrow.Author.Tests.{eq-eqb, ne_eqb}
 use lib.ListN.{length, get_or, set, replicate, length-set, length-replicate}
 use lib.Seq.{get_or-set_same, get_or-set_other}
 use lib.IntN.{ℤ}
@@ -16,7 +17,7 @@ use Rattle.game.specs.Network.{Network, number, member_count}
 use Rattle.game.specs.Tree.{network_of, of_arc, marked}
 use Rattle.basics.specs.Integer.{plus}
 use Rattle.game.specs.Proposal.{share}
-use Rattle.basics.proofs.Bools.{pick_yes}
+use Rattle.basics.proofs.Bools.{pick_yes, pick_no}
 use Rattle.basics.proofs.Sums.{In, sum_cong, term_le}
 use Rattle.game.proofs.Certificate.{children}
 use Rattle.game.proofs.Excess.{Excess}
@@ -26,6 +27,12 @@ use Rattle.tree.proofs.Carry.{amounts, child, Carried, carried_start, carried_at
 use Rattle.tree.proofs.MemberPass.{up_to, up_to_next, up_to_number}
 use Rattle.search.specs.Passes.{Exceeding}
 use Rattle.search.proofs.Bound.{Proposed, weights_bound}
+
+-- of arc i + 1: its vertex's number, if it is a member, and that member's weight with what the arcs below exceed by
+pub record Met (ms : List ℕ) (shares : List ℤ) (below : List ℕ) (i j j' amount : ℕ) : Type 0 where
+  pub number_is : j' ≡ j - pick (eqb (get_or ms i 0) 1) 1
+  pub amount_is : amount ≡ get_or below (i + 1) 0
+      + pick (eqb (get_or ms i 0) 1) (plus (share shares (j - pick (eqb (get_or ms i 0) 1) 1)))
 
 module _ (ps cs ms : List ℕ) (shares : List ℤ) where
   abbrev n : Network
@@ -73,57 +80,84 @@ module _ (ps cs ms : List ℕ) (shares : List ℤ) where
       here : Carried amounts ps excess (suc i) below
       here = subst (λ (u : ℕ). Carried amounts ps excess u below) next s.carried
 
-      module _ {w : ℕ} (one : w ≡ pick (eqb (get_or ms i 0) 1) 1) where
-        pub passing_room : w ≤ j
-        passing_room = omega (arith, s.left, up_to_next ms next one)
+      -- 1 where the arc's vertex is a member
+      abbrev w : ℕ
+      w = pick (eqb (get_or ms i 0) 1) 1
 
-        numbered : j - w ≡ number n k
-        numbered = ap (λ (x : ℕ). x - w) s.left ∙ up_to_number ms next one
+      numbered : j - w ≡ number n k
+      numbered = ap (λ (x : ℕ). x - w) s.left ∙ up_to_number ms next refl
 
-        -- the place of a member that is met
-        pub passing_place : eqb (get_or ms i 0) 1 ≡ true → j - w < member_count n
-        passing_place m = omega (arith, numbered, number_lt n k (omega arith) (ap (marked ms) next ∙ m))
+      module _ (mark : get_or ms i 0 ≡ 1) where
+        is_member : eqb (get_or ms i 0) 1 ≡ true
+        is_member = eq-eqb (get_or ms i 0) 1 mark
 
-        -- the weight of the arc's vertex, and what its children exceed by
-        module _ {x : ℕ} (own : x ≡ pick (eqb (get_or ms i 0) 1) (plus (share shares (j - w)))) where
-          amount : x + get_or below k 0 ≡ weight k + children n excess k
-          amount =
-              ap₂ (λ (a b : ℕ). a + b)
-              (own ∙ ap₂ (λ (v u : ℕ). pick (marked ms v) (plus (share shares u))) (sym next) numbered)
-              (ap (λ (u : ℕ). get_or below u 0) next
-              ∙ carried_at amounts ps excess ok.sound i (omega arith) below here
-              ∙ ap (children n excess) (sym next))
+        one : w ≡ 1
+        one = pick_yes 1 is_member
 
-          pub passing_fits : x + get_or below k 0 ≤ 4092000000000000
-          passing_fits =
-              omega (
-                arith,
-                amount,
-                term_le (length ps) k weight (omega arith),
-                children_fit k within,
-                weights_bound ps cs ms shares ok,
-              )
+        pub passing_place : j - 1 < member_count n
+        passing_place = omega (arith, numbered, one, number_lt n k (omega arith) (ap (marked ms) next ∙ is_member))
 
-          pub passing_excess : {y : ℕ} → y ≡ (x + get_or below k 0) - get_or cs i 0 → y ≡ excess k
-          passing_excess e =
-              e ∙ ap₂ (λ (a b : ℕ). a - b) amount (ap (of_arc cs) (sym next)) ∙ sym (is_excess k (omega arith))
+        pub met_member : {j' amount : ℕ} → j' ≡ j - 1 → amount ≡ get_or below (i + 1) 0 + plus (share shares (j - 1))
+            → Met ms shares below i j j' amount
+        met_member ej ea =
+            record {
+              number_is = rw one ej;
+              amount_is = rw one (ea ∙ ap (λ (x : ℕ). get_or below (i + 1) 0 + x) (sym (pick_yes _ is_member)));
+            }
 
-      module _ {y : ℕ} (found : y ≡ excess k) where
-        pub passing_carry : get_or below (get_or ps i 0) 0 + y ≤ most_total
-        passing_carry =
+      pub met_other : (get_or ms i 0 ≡ 1 → ⊥) → Met ms shares below i j j (get_or below (i + 1) 0)
+      met_other mark =
+          let no_member : eqb (get_or ms i 0) 1 ≡ false = ne_eqb (get_or ms i 0) 1 mark in
+          record {
+            number_is = omega (arith, pick_no 1 no_member);
+            amount_is = omega (arith, pick_no (plus (share shares (j - w))) no_member);
+          }
+
+      module _ {j' amount : ℕ} (met : Met ms shares below i j j' amount) where
+        amount_here : amount ≡ weight k + children n excess k
+        amount_here =
             omega (
+              arith,
+              met.amount_is,
+              ap₂ (λ (v u : ℕ). pick (marked ms v) (plus (share shares u))) (sym next) numbered,
+              ap (λ (u : ℕ). get_or below u 0) (add-one i),
+              carried_at amounts ps excess ok.sound i (omega arith) below here,
+              ap (children n excess) next,
+            )
+
+        pub passing_fits : amount ≤ 4092000000000000
+        passing_fits =
+            omega (
+              arith,
+              amount_here,
+              term_le (length ps) k weight (omega arith),
+              children_fit k within,
+              weights_bound ps cs ms shares ok,
+            )
+
+        pub passing_excess : {cost y : ℕ} → cost ≡ get_or cs i 0 → y ≡ amount - cost → y ≡ excess k
+        passing_excess ec e =
+            e ∙ ap₂ (λ (a b : ℕ). a - b) amount_here (ec ∙ ap (of_arc cs) (sym next)) ∙ sym (is_excess k (omega arith))
+
+      module _ {y parent : ℕ} (found : y ≡ excess k) (up : parent ≡ get_or ps i 0) where
+        pub passing_carry : get_or below parent 0 + y ≤ most_total
+        passing_carry =
+            rw up
+            (omega (
               arith,
               here.lacks (get_or ps i 0) (omega (arith, ok.sound.rising i, ok.sound.few)),
               pick_yes (excess (suc i)) (eq-eqb (get_or ps i 0) (get_or ps i 0) refl),
+              found,
               ap excess next,
               children_fit (get_or ps i 0) (omega (arith, ok.sound.rising i)),
-            )
+            ))
 
-        pub passing_on : {w : ℕ} → w ≡ pick (eqb (get_or ms i 0) 1) 1
-            → Passing (set below (get_or ps i 0) (get_or below (get_or ps i 0) 0 + y)) (set excesses k y) (j - w) i
-        passing_on one =
-            record {
-              left = omega (arith, s.left, up_to_next ms next one);
+        pub passing_on : {j' amount : ℕ} → Met ms shares below i j j' amount
+            → Passing (set below parent (get_or below parent 0 + y)) (set excesses (i + 1) y) j' i
+        passing_on met =
+            rw (up, add-one i, ← next)
+            (record {
+              left = omega (arith, met.number_is, s.left, up_to_next ms next refl);
               carried =
                   carried_on amounts ps excess ok.sound i (omega arith) below here
                   (get_or below (get_or ps i 0) 0 + y)
@@ -133,7 +167,7 @@ module _ (ps cs ms : List ℕ) (shares : List ℤ) where
                   λ v lo hi. elim
                   (ℕ_discrete v k)
                   [ yes d ↦ at_next v d | no d ↦ get_or-set_other excesses k v y 0 d ∙ s.found v (omega arith) hi ];
-            }
+            })
           where
             at_next : (v : ℕ) → v ≡ k → get_or (set excesses k y) v 0 ≡ excess v
             at_next v d =

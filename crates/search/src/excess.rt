@@ -12,23 +12,12 @@ ghost use Rattle.search.specs.Passes.{Exceeding};
 
 use limits::MOST_ARCS;
 
-#[derive(Clone, Copy)]
+#[derive(Debug, Clone, Copy, PartialEq, Eq)]
 pub struct Excesses {
     // All excess, that of the arcs from the source.
     pub total: u64,
     // By vertex: the excess of the arc that enters it.
     pub of: [u64; MOST_ARCS + 1],
-}
-
-// The positive share of member j where the mark is 1, else 0.
-fn share_here(mark: u16, proposal: &[i64], j: usize) -> u64
-    requires { eqb mark 1 ≡ true → j < length proposal.now }
-    ensures { result ≡ pick (eqb mark 1) (plus (share proposal.now j)) }
-{
-    if mark == 1 {
-        return numbers::plus(proposal[j]);
-    }
-    0
 }
 
 pub fn find_excesses(parents: &[u16], costs: &[u32], marks: &[u16], proposal: &[i64]) -> Excesses
@@ -43,16 +32,15 @@ pub fn find_excesses(parents: &[u16], costs: &[u32], marks: &[u16], proposal: &[
     let mut below = [0u64; MOST_ARCS + 1];
     let mut of = [0u64; MOST_ARCS + 1];
     let mut j = proposal.len();
-    let mut k = parents.len() + 1;
-    while k > 1 {
-        k -= 1;
-        let mark = marks[k - 1];
-        j -= tree::one_if_marked(mark);
-        let amount = share_here(mark, proposal, j) + below[k];
-        let x = numbers::above(amount, costs[k - 1] as u64);
-        of[k] = x;
-        let p = parents[k - 1] as usize;
-        below[p] = below[p] + x;
+    for i in (0..parents.len()).rev() {
+        let mut amount = below[i + 1];
+        if marks[i] == 1 {
+            j -= 1;
+            amount += numbers::plus(proposal[j]);
+        }
+        let x = amount.saturating_sub(u64::from(costs[i]));
+        of[i + 1] = x;
+        below[usize::from(parents[i])] += x;
     }
     Excesses {
         total: below[0],

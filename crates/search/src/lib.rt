@@ -16,7 +16,7 @@ ghost use Rattle.answers.specs.Checks.{proposal_check};
 ghost use Rattle.tree.specs.Passes.{Sound, Costed, Marked};
 
 // What the named group overpays, and its words.
-#[derive(Clone, Copy)]
+#[derive(Debug, Clone, Copy, PartialEq, Eq)]
 pub struct Found {
     pub amount: u64,
     pub group: [u64; 16],
@@ -35,8 +35,7 @@ pub fn search(parents: &[u16], costs: &[u32], marks: &[u16], proposal: &[i64]) -
         result.group ≡ words_of (is_in (named n proposal.now)) }
 {
     let found = excess::find_excesses(parents, costs, marks, proposal);
-    let of = found.of;
-    let group = active::choose_active(parents, marks, of);
+    let group = active::choose_active(parents, marks, &found.of);
     Found {
         amount: found.total,
         group,

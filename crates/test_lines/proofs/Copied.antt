@@ -1,12 +1,12 @@
 -- A loop that copies a list into the front of another, entry by entry.
-use Prim.Native.Nat.{ℕ, ◌+◌, ◌-◌, ◌<◌, ◌≤◌}
+use Prim.Native.Nat.{ℕ, ◌+◌, ◌<◌, ◌≤◌}
 use mathlib.Core.Path.{◌≡◌, refl, sym, ap, ◌∙◌}
 use mathlib.Core.List.{List}
-use native.Mathlib.Nat.{zero-add, sub-zero}
+use native.Mathlib.Nat.{zero-add}
 use native.Mathlib.Numerals.{add-one}
 use native.Mathlib.Omega.{arith}
-use lib.ListN.{length, get_or, set, take, length-set}
-use lib.Seq.{paste, paste-zero, paste-suc, take-paste, take-length}
+use lib.ListN.{length, get_or, set, length-set}
+use lib.Seq.{paste, paste-zero, paste-suc}
 
 -- the first i of n entries of s are copied into d, which is now `list`
 pub record Copied {A : Type 0} (s d : List A) (n i : ℕ) (list : List A) : Type 0 where
@@ -41,10 +41,3 @@ module _ {A : Type 0} (s d : List A) (n : ℕ) where
   copied_all {i} c h =
       let all : i ≡ n = omega arith in
       c.copied ∙ ap (paste d 0 s) all
-
--- the part of a list that all of s is copied into is s
-pub copied_part : {A : Type 0} (s d : List A) → take (length s - 0) (paste d 0 s (length s)) ≡ s
-copied_part s d =
-    ap (λ (n : ℕ). take n (paste d 0 s (length s))) (sub-zero (length s) ∙ sym (zero-add (length s)))
-    ∙ take-paste d 0 s (length s) (omega arith) (omega arith)
-    ∙ take-length s

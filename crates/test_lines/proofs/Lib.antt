@@ -2,5 +2,5 @@ mod Copied
 mod Fields
 mod HexLaws
 mod Lists
-mod Rests
-mod Searches
+mod Numbers
+mod Same

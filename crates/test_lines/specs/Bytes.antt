@@ -1,9 +1,5 @@
--- A part of a list, and where a byte stands first.
-use Rattle.std.specs.Prelude.{ℕ, suc, Bool, true, false, List, [], ◌∷◌, eqb, take, drop}
-
--- the entries from place `from` to before place `to`
-unfoldable pub slice : ℕ → ℕ → List ℕ → List ℕ
-slice from to xs = drop from (take to xs)
+-- Where a byte stands first in a list.
+use Rattle.std.specs.Prelude.{ℕ, suc, Bool, true, false, List, [], ◌∷◌, eqb}
 
 -- the place of a byte, where it stands in front or k places further on
 unfoldable pub index_after : Bool → ℕ → ℕ

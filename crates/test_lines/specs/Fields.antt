@@ -1,5 +1,5 @@
 -- What the contracts say of a line's fields.
-use Rattle.std.specs.Prelude.{ℕ, zero, suc, ◌<◌, ◌≤◌, ◌≡◌, Bool, true, false, List, [], ◌∷◌, eqb, get_or}
+use Rattle.std.specs.Prelude.{ℕ, ◌<◌, ◌≤◌, ◌≡◌, Bool, true, false, List, [], ◌∷◌, eqb, get_or}
 
 -- the fields with a byte before them: a space starts a field, another byte belongs to the first
 unfoldable pub after : Bool → ℕ → List (List ℕ) → List (List ℕ)
@@ -11,12 +11,6 @@ after false byte (f ∷ fields) = (byte ∷ f) ∷ fields
 unfoldable pub fields_of : List ℕ → List (List ℕ)
 fields_of [] = [] ∷ []
 fields_of (byte ∷ line) = after (eqb byte 32) byte (fields_of line)
-
--- the fields of what is left of a line from a place: none past its end
-unfoldable pub fields_from : List ℕ → ℕ → List (List ℕ)
-fields_from line zero = fields_of line
-fields_from [] (suc at) = []
-fields_from (byte ∷ line) (suc at) = fields_from line at
 
 -- r is the first of the fields 0 to n - 1 that is the word, or n
 pub record First (fields : List (List ℕ)) (n : ℕ) (word : List ℕ) (r : ℕ) : Type 0 where

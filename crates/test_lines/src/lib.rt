@@ -7,4 +7,3 @@ pub mod number;
 pub mod print;
 pub mod rest;
 pub mod scan;
-mod width;

@@ -1,108 +1,61 @@
 // Reading decimal numbers.
-ghost use Rattle.std.specs.Prelude.{◌≤◌};
-
-// A number; 0 where the bytes are none.
-#[derive(Clone, Copy)]
-pub struct Number {
-    pub readable: bool,
-    pub value: u64,
-}
-
-// What the least signed number is without its sign.
-const MOST_NEGATIVE: u64 = 9223372036854775808;
-
-const UNREADABLE: Number = Number {
-    readable: false,
-    value: 0,
-};
+ghost use Rattle.std.specs.Prelude.{◌≡◌, ◌+◌, ◌*◌, ◌<◌, ◌^◌, IfSome, IsTrue, Ok};
+ghost use Rattle.std.specs.Char.{digit_value};
+ghost use Rattle.std.specs.Option.{SomeIff};
+ghost use Rattle.std.specs.Ordering.{partial_le};
+ghost use Rattle.std.specs.Str.Parse.{IsNumeral, digits_value, signed_digits_value};
 
 // The number with one digit more.
-fn with_digit(n: Number, byte: u8) -> Number {
-    if !n.readable {
-        return UNREADABLE;
-    }
-    if byte < b'0' {
-        return UNREADABLE;
-    }
-    if b'9' < byte {
-        return UNREADABLE;
-    }
-    let digit = (byte - b'0') as u64;
-    if u64::MAX / 10 < n.value {
-        return UNREADABLE;
-    }
-    let tens = n.value * 10;
-    if u64::MAX - tens < digit {
-        return UNREADABLE;
-    }
-    Number {
-        readable: true,
-        value: tens + digit,
-    }
+fn with_digit(n: u64, byte: u8) -> Option<u64>
+    ensures { let next = n * 10 + digit_value byte in SomeIff result ((digit_value byte < 10) × (next < 2 ^ 64)) next }
+{
+    let digit = char::from(byte).to_digit(10)?;
+    n.checked_mul(10)?.checked_add(u64::from(digit))
 }
 
 // A number of 64 bits; it has at least one digit.
-fn decimal(s: &[u8]) -> Number {
-    let mut n = Number {
-        readable: 0 < s.len(),
-        value: 0,
-    };
-    let mut i = 0;
-    while i < s.len() {
-        n = with_digit(n, s[i]);
-        i += 1;
-    }
-    n
-}
-
-// The number where it is at most most.
-fn limited(n: Number, most: u64) -> Number
-    ensures { result.value ≤ most }
+fn decimal(s: &[u8]) -> Option<u64>
+    ensures { SomeIff result (IsNumeral 10 s.now × (digits_value 10 s.now < 2 ^ 64)) (digits_value 10 s.now) }
 {
-    if most < n.value {
-        return UNREADABLE;
+    if s.is_empty() {
+        return None;
     }
-    n
+    let mut n = 0;
+    for byte in s {
+        n = with_digit(n, *byte)?;
+    }
+    Some(n)
 }
 
-// A number that is at most most.
-pub fn up_to(s: &[u8], most: u64) -> Number
-    ensures { result.value ≤ most }
+// A number of some type.
+pub fn unsigned<T: TryFrom<u64>>(s: &[u8]) -> Option<T>
+where
+    T::Error: Drop,
+    ensures { IfSome result (λ n. IsNumeral 10 s.now × T.try_from_gives (digits_value 10 s.now) (Ok n)) }
 {
-    limited(decimal(s), most)
+    T::try_from(decimal(s)?).ok()
 }
 
-// The bits of a number's negation; the number is 1 to 2^63.
-fn negated(n: Number) -> Number {
-    if n.value == 0 {
-        return UNREADABLE;
-    }
-    if MOST_NEGATIVE < n.value {
-        return UNREADABLE;
-    }
-    Number {
-        readable: true,
-        value: u64::MAX - (n.value - 1),
-    }
-}
-
-// The bits of a signed number of 64 bits: a minus sign before its digits where it is negative.
-fn signed_bits(s: &[u8]) -> Number {
-    if s.len() == 0 {
-        return UNREADABLE;
-    }
-    if s[0] == b'-' {
-        return negated(decimal(&s[1..]));
-    }
-    up_to(s, i64::MAX as u64)
-}
-
-// A number, or the bits of a signed one, that is at most most.
-pub fn entry(s: &[u8], signed: bool, most: u64) -> Number
-    ensures { result.value ≤ most }
+// A number of some type that is at most most.
+pub fn up_to<T: TryFrom<u64> + PartialOrd + Copy>(s: &[u8], most: T) -> Option<T>
+where
+    T::Error: Drop,
+    ensures value { IfSome result (λ n. IsNumeral 10 s.now × T.try_from_gives (digits_value 10 s.now) (Ok n)) }
+    ensures upper_bound { IfSome result (λ n. IsTrue (partial_le T.partial_cmp n most)) }
 {
-    if signed {
-        return limited(signed_bits(s), most);
+    let n = unsigned(s)?;
+    if n <= most { Some(n) } else { None }
+}
+
+// A signed number: a minus before its digits where it is below 0, and else no sign.
+pub fn signed(s: &[u8]) -> Option<i64>
+    ensures { IfSome result (λ n. n ≡ signed_digits_value 10 s.now) }
+{
+    match s.strip_prefix(b"-") {
+        Some(digits) => match decimal(digits)? {
+            0 => None,
+            n => 0i64.checked_sub_unsigned(n),
+        },
+        None => unsigned(s),
     }
-    up_to(s, most)
 }

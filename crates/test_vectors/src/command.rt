@@ -4,7 +4,7 @@ ghost use Rattle.test_vectors.specs.Commands.{Named, field_count};
 
 use test_lines::field;
 
-#[derive(Clone, Copy)]
+#[derive(Clone, Copy, Debug, PartialEq, Eq)]
 pub enum Command {
     Check,
     Count,
@@ -33,40 +33,46 @@ pub enum Command {
     Unknown,
 }
 
+// Their names, with a space between two.
+const NAMES: &[u8] =
+    b"check count members needs group total search shares level caps byarc deadends capsums margin \
+    classes next walk job job2 write to2 to1 state events";
+
+// The commands, in the order of their names.
+const COMMANDS: [Command; 24] = [
+    Command::Check,
+    Command::Count,
+    Command::Members,
+    Command::Needs,
+    Command::Group,
+    Command::Total,
+    Command::Search,
+    Command::Shares,
+    Command::Level,
+    Command::Caps,
+    Command::ByArc,
+    Command::DeadEnds,
+    Command::CapSums,
+    Command::Margin,
+    Command::Classes,
+    Command::Next,
+    Command::Walk,
+    Command::Job,
+    Command::JobTwo,
+    Command::Write,
+    Command::ToTwo,
+    Command::ToOne,
+    Command::State,
+    Command::Events,
+];
+
+// A match on the name's bytes was tried: it left more than a hundred goals open.
 pub fn named(name: &[u8]) -> Command
     ensures { Named name.now result }
 {
-    match field::find(
-        b"check count members needs group total search shares level caps byarc deadends capsums margin \
-        classes next walk job job2 write to2 to1 state events",
-        24,
-        name,
-    ) {
-        0 => Command::Check,
-        1 => Command::Count,
-        2 => Command::Members,
-        3 => Command::Needs,
-        4 => Command::Group,
-        5 => Command::Total,
-        6 => Command::Search,
-        7 => Command::Shares,
-        8 => Command::Level,
-        9 => Command::Caps,
-        10 => Command::ByArc,
-        11 => Command::DeadEnds,
-        12 => Command::CapSums,
-        13 => Command::Margin,
-        14 => Command::Classes,
-        15 => Command::Next,
-        16 => Command::Walk,
-        17 => Command::Job,
-        18 => Command::JobTwo,
-        19 => Command::Write,
-        20 => Command::ToTwo,
-        21 => Command::ToOne,
-        22 => Command::State,
-        23 => Command::Events,
-        _ => Command::Unknown,
+    match field::find(NAMES, COMMANDS.len(), name) {
+        Some(place) => COMMANDS[place],
+        None => Command::Unknown,
     }
 }
 

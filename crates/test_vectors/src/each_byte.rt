@@ -25,16 +25,8 @@ fn run_each<W: Write>(writer: &mut W, line: &mut [u8], at: usize) -> Result<()>
 }
 
 pub fn run<W: Write>(writer: &mut W, line: &mut [u8]) -> Result<()> {
-    let at = scan::find(line, 0, line.len(), b'*');
-    if line.len() <= at {
-        return case::run(writer, line);
+    match scan::find(line, b'*') {
+        Some(at) if at + 1 < line.len() && line[at + 1] == b'*' => run_each(writer, line, at),
+        _ => case::run(writer, line),
     }
-    let next = at + 1;
-    if line.len() <= next {
-        return case::run(writer, line);
-    }
-    if line[next] != b'*' {
-        return case::run(writer, line);
-    }
-    run_each(writer, line, at)
 }

@@ -1,14 +1,13 @@
 // The cases of the version 2 reader: as those of version 1, with six lists.
-ghost use Rattle.std.specs.Prelude.{◌≤◌, length};
-ghost use Rattle.test_lines.specs.Lists.{MOST};
-
 use crate::job_lists::MOST_BYTES;
 use crate::print::others;
-use crate::{job_lists, print};
+use crate::{job_lists, print, read};
+use engine::Refusal;
 use job::JobRead;
-use std::io::{Result, Write};
+use std::io;
+use std::io::Write;
 use test_lines::list::MOST;
-use test_lines::{field, hex, list, rest};
+use test_lines::{field, list, rest};
 
 // The lists that the reader fills.
 const LISTS: usize = 6;
@@ -22,48 +21,36 @@ fn kept(
     caps: &[u64],
     proposals: &[i64],
     floors: &[u64],
-) -> bool
-    requires parents_len_bound { length parents.now ≤ MOST }
-    requires costs_len_bound { length costs.now ≤ MOST }
-    requires marks_len_bound { length marks.now ≤ MOST }
-{
-    if !job_lists::arcs_kept(arcs, parents, costs) {
-        return false;
-    }
-    if !rest::is16(marks, arcs, 9) {
-        return false;
-    }
-    if !job_lists::members_kept(members, caps, proposals) {
-        return false;
-    }
-    rest::is(floors, members, 9)
+) -> bool {
+    job_lists::arcs_kept(arcs, parents, costs)
+        && rest::is(marks, arcs, 9)
+        && job_lists::members_kept(members, caps, proposals)
+        && rest::is(floors, members, 9)
 }
 
 fn job_read<W: Write>(
     writer: &mut W,
-    answer: JobRead,
+    answer: Result<JobRead, Refusal>,
     parents: &[u16],
     costs: &[u32],
     marks: &[u16],
     caps: &[u64],
     proposals: &[i64],
     floors: &[u64],
-) -> Result<()>
-    requires parents_len_bound { length parents.now ≤ MOST }
-    requires costs_len_bound { length costs.now ≤ MOST }
-    requires marks_len_bound { length marks.now ≤ MOST }
-{
+) -> io::Result<()> {
     match answer {
-        JobRead::Read {
-            arcs,
-            members,
-            note,
-        } => {
+        Ok(
+            JobRead {
+                arcs,
+                members,
+                note,
+            },
+        ) => {
             job_lists::counts(writer, arcs, members, note)?;
             job_lists::arc_fronts(writer, arcs, parents, costs)?;
-            job_lists::front16(writer, arcs, marks)?;
+            job_lists::front(writer, arcs, marks)?;
             job_lists::member_fronts(writer, members, caps, proposals)?;
-            job_lists::front64(writer, members, floors)?;
+            job_lists::front(writer, members, floors)?;
             others(
                 writer,
                 kept(
@@ -71,7 +58,7 @@ fn job_read<W: Write>(
                 ),
             )
         }
-        JobRead::Refused(r) => {
+        Err(r) => {
             print::refusal(writer, r)?;
             others(
                 writer,
@@ -81,7 +68,7 @@ fn job_read<W: Write>(
     }
 }
 
-fn read<W: Write>(
+fn run_entry<W: Write>(
     writer: &mut W,
     bytes: &[u8],
     parents: &mut [u16],
@@ -90,74 +77,35 @@ fn read<W: Write>(
     caps: &mut [u64],
     proposals: &mut [i64],
     floors: &mut [u64],
-) -> Result<()>
-    requires parents_len_bound { length parents.old ≤ MOST }
-    requires costs_len_bound { length costs.old ≤ MOST }
-    requires marks_len_bound { length marks.old ≤ MOST }
-{
+) -> io::Result<()> {
     let answer = job2::read(bytes, parents, costs, marks, caps, proposals, floors);
     job_read(
         writer, answer, parents, costs, marks, caps, proposals, floors,
     )
 }
 
-// The lists by their lengths.
-fn with_lists<W: Write>(
-    writer: &mut W,
-    bytes: &[u8],
-    parents: usize,
-    costs: usize,
-    marks: usize,
-    caps: usize,
-    proposals: usize,
-    floors: usize,
-) -> Result<()>
-    requires parents_bound { parents ≤ MOST }
-    requires costs_bound { costs ≤ MOST }
-    requires marks_bound { marks ≤ MOST }
-    requires caps_bound { caps ≤ MOST }
-    requires proposals_bound { proposals ≤ MOST }
-    requires floors_bound { floors ≤ MOST }
-{
-    let mut p = [9u16; MOST];
-    let mut c = [9u32; MOST];
-    let mut m = [9u16; MOST];
-    let mut k = [9u64; MOST];
-    let mut s = [9i64; MOST];
-    let mut f = [9u64; MOST];
-    read(
+// Field 1 has the lists' lengths, field 2 the bytes.
+pub fn run<W: Write>(writer: &mut W, line: &[u8]) -> Option<io::Result<()>> {
+    let mut lengths = [0usize; LISTS];
+    if list::read_up_to(field::nth(line, 1), MOST, &mut lengths)? != LISTS {
+        return None;
+    }
+    let mut bytes = [0u8; MOST_BYTES];
+    let bytes = read::bytes(line, 2, &mut bytes)?;
+    let mut parents = [9u16; MOST];
+    let mut costs = [9u32; MOST];
+    let mut marks = [9u16; MOST];
+    let mut caps = [9u64; MOST];
+    let mut proposals = [9i64; MOST];
+    let mut floors = [9u64; MOST];
+    Some(run_entry(
         writer,
         bytes,
-        &mut p[0..parents],
-        &mut c[0..costs],
-        &mut m[0..marks],
-        &mut k[0..caps],
-        &mut s[0..proposals],
-        &mut f[0..floors],
-    )
-}
-
-// Field 1 has the lengths, field 2 the bytes.
-pub fn run<W: Write>(writer: &mut W, line: &[u8]) -> Result<()> {
-    let mut lengths = [0u64; LISTS];
-    let lists = list::read(field::nth(line, 1), MOST as u64, &mut lengths);
-    let mut bytes = [0u8; MOST_BYTES];
-    let job = hex::read(field::nth(line, 2), &mut bytes);
-    if lists.count != LISTS {
-        return print::bad_case(writer);
-    }
-    if !job.readable {
-        return print::bad_case(writer);
-    }
-    let n = job.count;
-    with_lists(
-        writer,
-        &bytes[0..n],
-        lengths[0] as usize,
-        lengths[1] as usize,
-        lengths[2] as usize,
-        lengths[3] as usize,
-        lengths[4] as usize,
-        lengths[5] as usize,
-    )
+        &mut parents[..lengths[0]],
+        &mut costs[..lengths[1]],
+        &mut marks[..lengths[2]],
+        &mut caps[..lengths[3]],
+        &mut proposals[..lengths[4]],
+        &mut floors[..lengths[5]],
+    ))
 }

@@ -1,15 +1,14 @@
 // The cases of the version 1 reader: the lengths of the four lists that it fills, then the job's bytes. Each entry is 9
 // before the call.
-ghost use Rattle.std.specs.Prelude.{◌≤◌, length};
-ghost use Rattle.test_lines.specs.Lists.{MOST};
-
 use crate::job_lists::MOST_BYTES;
 use crate::print::others;
-use crate::{job_lists, print};
+use crate::{job_lists, print, read};
+use engine::Refusal;
 use job::JobRead;
-use std::io::{Result, Write};
+use std::io;
+use std::io::Write;
 use test_lines::list::MOST;
-use test_lines::{field, hex, list};
+use test_lines::{field, list};
 
 // The lists that the reader fills.
 const LISTS: usize = 4;
@@ -22,107 +21,68 @@ fn kept(
     costs: &[u32],
     caps: &[u64],
     proposals: &[i64],
-) -> bool
-    requires parents_len_bound { length parents.now ≤ MOST }
-    requires costs_len_bound { length costs.now ≤ MOST }
-{
-    if !job_lists::arcs_kept(arcs, parents, costs) {
-        return false;
-    }
-    job_lists::members_kept(members, caps, proposals)
+) -> bool {
+    job_lists::arcs_kept(arcs, parents, costs) && job_lists::members_kept(members, caps, proposals)
 }
 
 fn job_read<W: Write>(
     writer: &mut W,
-    answer: JobRead,
+    answer: Result<JobRead, Refusal>,
     parents: &[u16],
     costs: &[u32],
     caps: &[u64],
     proposals: &[i64],
-) -> Result<()>
-    requires parents_len_bound { length parents.now ≤ MOST }
-    requires costs_len_bound { length costs.now ≤ MOST }
-{
+) -> io::Result<()> {
     match answer {
-        JobRead::Read {
-            arcs,
-            members,
-            note,
-        } => {
+        Ok(
+            JobRead {
+                arcs,
+                members,
+                note,
+            },
+        ) => {
             job_lists::counts(writer, arcs, members, note)?;
             job_lists::arc_fronts(writer, arcs, parents, costs)?;
             job_lists::member_fronts(writer, members, caps, proposals)?;
             others(writer, kept(arcs, members, parents, costs, caps, proposals))
         }
-        JobRead::Refused(r) => {
+        Err(r) => {
             print::refusal(writer, r)?;
             others(writer, kept(0, 0, parents, costs, caps, proposals))
         }
     }
 }
 
-fn read<W: Write>(
+fn run_entry<W: Write>(
     writer: &mut W,
     bytes: &[u8],
     parents: &mut [u16],
     costs: &mut [u32],
     caps: &mut [u64],
     proposals: &mut [i64],
-) -> Result<()>
-    requires parents_len_bound { length parents.old ≤ MOST }
-    requires costs_len_bound { length costs.old ≤ MOST }
-{
+) -> io::Result<()> {
     let answer = job::read(bytes, parents, costs, caps, proposals);
     job_read(writer, answer, parents, costs, caps, proposals)
 }
 
-// The lists by their lengths.
-fn with_lists<W: Write>(
-    writer: &mut W,
-    bytes: &[u8],
-    parents: usize,
-    costs: usize,
-    caps: usize,
-    proposals: usize,
-) -> Result<()>
-    requires parents_bound { parents ≤ MOST }
-    requires costs_bound { costs ≤ MOST }
-    requires caps_bound { caps ≤ MOST }
-    requires proposals_bound { proposals ≤ MOST }
-{
-    let mut p = [9u16; MOST];
-    let mut c = [9u32; MOST];
-    let mut k = [9u64; MOST];
-    let mut s = [9i64; MOST];
-    read(
+// Field 1 has the lists' lengths, field 2 the bytes.
+pub fn run<W: Write>(writer: &mut W, line: &[u8]) -> Option<io::Result<()>> {
+    let mut lengths = [0usize; LISTS];
+    if list::read_up_to(field::nth(line, 1), MOST, &mut lengths)? != LISTS {
+        return None;
+    }
+    let mut bytes = [0u8; MOST_BYTES];
+    let bytes = read::bytes(line, 2, &mut bytes)?;
+    let mut parents = [9u16; MOST];
+    let mut costs = [9u32; MOST];
+    let mut caps = [9u64; MOST];
+    let mut proposals = [9i64; MOST];
+    Some(run_entry(
         writer,
         bytes,
-        &mut p[0..parents],
-        &mut c[0..costs],
-        &mut k[0..caps],
-        &mut s[0..proposals],
-    )
-}
-
-// Field 1 has the lengths, field 2 the bytes.
-pub fn run<W: Write>(writer: &mut W, line: &[u8]) -> Result<()> {
-    let mut lengths = [0u64; LISTS];
-    let lists = list::read(field::nth(line, 1), MOST as u64, &mut lengths);
-    let mut bytes = [0u8; MOST_BYTES];
-    let job = hex::read(field::nth(line, 2), &mut bytes);
-    if lists.count != LISTS {
-        return print::bad_case(writer);
-    }
-    if !job.readable {
-        return print::bad_case(writer);
-    }
-    let n = job.count;
-    with_lists(
-        writer,
-        &bytes[0..n],
-        lengths[0] as usize,
-        lengths[1] as usize,
-        lengths[2] as usize,
-        lengths[3] as usize,
-    )
+        &mut parents[..lengths[0]],
+        &mut costs[..lengths[1]],
+        &mut caps[..lengths[2]],
+        &mut proposals[..lengths[3]],
+    ))
 }

@@ -1,10 +1,7 @@
 // The lists that a job reader fills: their fronts printed, and whether the entries past these are 9, as before it.
-ghost use Rattle.std.specs.Prelude.{◌≤◌, length};
-ghost use Rattle.test_lines.specs.Lists.{MOST};
-
-use crate::print::front;
+use std::fmt::Display;
 use std::io::{Result, Write};
-use test_lines::print::{labelled, list, list_signed, list16, list32};
+use test_lines::print::list;
 use test_lines::rest;
 
 // The most bytes of a job or an output in a case: more than a job may have.
@@ -12,33 +9,24 @@ pub const MOST_BYTES: usize = 33500;
 
 // What a reader answers.
 pub fn counts<W: Write>(writer: &mut W, arcs: usize, members: usize, note: usize) -> Result<()> {
-    labelled(writer, b"read ", arcs as u64)?;
-    labelled(writer, b" ", members as u64)?;
-    labelled(writer, b" ", note as u64)
+    write!(writer, "read {arcs} {members} {note}")
 }
 
-// The first n entries.
-pub fn front16<W: Write>(writer: &mut W, n: usize, entries: &[u16]) -> Result<()>
-    requires { length entries.now ≤ MOST }
-{
-    let k = front(n, entries.len());
-    list16(writer, &entries[0..k])
-}
-
-// As front16.
-pub fn front64<W: Write>(writer: &mut W, n: usize, entries: &[u64]) -> Result<()> {
-    let k = front(n, entries.len());
-    list(writer, &entries[0..k])
+// The first n entries, or all where there are fewer.
+pub fn front<W: Write, T: Display>(writer: &mut W, n: usize, entries: &[T]) -> Result<()> {
+    let k = n.min(entries.len());
+    list(writer, &entries[..k])
 }
 
 // The fronts of the lists with an entry an arc that both versions have.
-pub fn arc_fronts<W: Write>(writer: &mut W, n: usize, parents: &[u16], costs: &[u32]) -> Result<()>
-    requires parents_len_bound { length parents.now ≤ MOST }
-    requires costs_len_bound { length costs.now ≤ MOST }
-{
-    front16(writer, n, parents)?;
-    let k = front(n, costs.len());
-    list32(writer, &costs[0..k])
+pub fn arc_fronts<W: Write>(
+    writer: &mut W,
+    n: usize,
+    parents: &[u16],
+    costs: &[u32],
+) -> Result<()> {
+    front(writer, n, parents)?;
+    front(writer, n, costs)
 }
 
 // As arc_fronts, with an entry a member.
@@ -48,24 +36,14 @@ pub fn member_fronts<W: Write>(
     caps: &[u64],
     proposals: &[i64],
 ) -> Result<()> {
-    front64(writer, n, caps)?;
-    let k = front(n, proposals.len());
-    list_signed(writer, &proposals[0..k])
+    front(writer, n, caps)?;
+    front(writer, n, proposals)
 }
 
-pub fn arcs_kept(n: usize, parents: &[u16], costs: &[u32]) -> bool
-    requires parents_len_bound { length parents.now ≤ MOST }
-    requires costs_len_bound { length costs.now ≤ MOST }
-{
-    if !rest::is16(parents, n, 9) {
-        return false;
-    }
-    rest::is32(costs, n, 9)
+pub fn arcs_kept(n: usize, parents: &[u16], costs: &[u32]) -> bool {
+    rest::is(parents, n, 9) && rest::is(costs, n, 9)
 }
 
 pub fn members_kept(n: usize, caps: &[u64], proposals: &[i64]) -> bool {
-    if !rest::is(caps, n, 9) {
-        return false;
-    }
-    rest::is_signed(proposals, n, 9)
+    rest::is(caps, n, 9) && rest::is(proposals, n, 9)
 }

@@ -1,70 +1,41 @@
 // The cases of the step through all parent lists: the list. It is printed after every answer, and after a refusal too,
 // which leaves it as it came.
-ghost use Rattle.std.specs.Prelude.{◌≤◌, length};
-ghost use Rattle.test_lines.specs.Lists.{MOST};
-
-use crate::command::Command;
 use crate::print;
 use engine::Stepped;
 use std::io::{Result, Write};
 use test_lines::list::MOST;
-use test_lines::print::{labelled, text};
-use test_lines::{field, list};
+use test_lines::{field, list, number};
 
 // More than the lists of any walk.
 const MOST_LISTS: u64 = 1000;
 
-fn step<W: Write>(writer: &mut W, parents: &mut [u16]) -> Result<()>
-    requires { length parents.old ≤ MOST }
-{
+pub fn step<W: Write>(writer: &mut W, parents: &mut [u16]) -> Result<()> {
     print::stepped(writer, engine::next_parents(parents))?;
-    test_lines::print::list16(writer, parents)
-}
-
-fn is_next(s: Stepped) -> bool {
-    match s {
-        Stepped::Next => true,
-        _ => false,
-    }
+    test_lines::print::list(writer, parents)
 }
 
 // Steps up to the list from which none goes on, and counts the lists, the first and the last among them.
 fn walked(parents: &mut [u16]) -> u64 {
-    let mut lists = 1;
-    while lists < MOST_LISTS {
-        if !is_next(engine::next_parents(parents)) {
+    for lists in 1..MOST_LISTS {
+        if engine::next_parents(parents) != Ok(Stepped::Next) {
             return lists;
         }
-        lists += 1;
     }
-    lists
+    MOST_LISTS
 }
 
 // The step from the last list is made once more, and its answer is printed.
-fn walk<W: Write>(writer: &mut W, parents: &mut [u16]) -> Result<()>
-    requires { length parents.old ≤ MOST }
-{
-    labelled(writer, b"lists ", walked(parents))?;
-    text(writer, b", ")?;
+pub fn walk<W: Write>(writer: &mut W, parents: &mut [u16]) -> Result<()> {
+    let lists = walked(parents);
+    write!(writer, "lists {lists}, ")?;
     step(writer, parents)
 }
 
-fn on_list<W: Write>(writer: &mut W, c: Command, parents: &mut [u16]) -> Result<()>
-    requires { length parents.old ≤ MOST }
-{
-    match c {
-        Command::Walk => walk(writer, parents),
-        _ => step(writer, parents),
-    }
-}
-
 // Field 1 has the list.
-pub fn run<W: Write>(writer: &mut W, c: Command, line: &[u8]) -> Result<()> {
+pub fn run<F: FnOnce(&mut [u16]) -> Result<()>>(line: &[u8], run: F) -> Option<Result<()>>
+    requires { F.IsAlwaysCallable run }
+{
     let mut parents = [0u16; MOST];
-    let found = list::read16(field::nth(line, 1), &mut parents);
-    if !found.readable {
-        return print::bad_case(writer);
-    }
-    let m = found.count;
-    on_list(writer, c, &mut parents[0..m])
+    let n = list::read(field::nth(line, 1), number::unsigned, &mut parents)?;
+    Some(run(&mut parents[..n]))
 }

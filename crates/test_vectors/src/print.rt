@@ -1,187 +1,148 @@
 // Printing the answers of the entries.
-ghost use Rattle.std.specs.Prelude.{◌≤◌};
+use engine::{GroupCost, LevelRefusal, MarginSplit, NeedsFound, Refusal, Searched, Stepped};
+use events::{Change, Event, Quote, Quoted, State};
+use std::fmt::Display;
+use std::io;
+use std::io::Write;
+use test_lines::print::{list, trimmed};
 
-use engine::{
-    CapSumsFound, Checked, GroupCost, GroupFound, LevelSplit, MarginSplit, MemberCount, NeedsFound,
-    Refusal, Searched, Stepped, TotalFound,
-};
-use events::{Change, Event, Quote, QuoteGiven, State};
-use job::JobLength;
-use std::io::{Result, Write};
-use test_lines::print::{labelled, labelled_signed, list, text, trimmed, trimmed16, trimmed32};
-
-pub fn bad_case<W: Write>(writer: &mut W) -> Result<()> {
-    text(writer, b"bad case")
+pub fn refusal<W: Write>(writer: &mut W, refusal: Refusal) -> io::Result<()> {
+    write!(writer, "refused {refusal}")
 }
 
-pub fn refusal<W: Write>(writer: &mut W, r: Refusal) -> Result<()> {
-    labelled(writer, b"refused ", r.number as u64)?;
-    labelled(writer, b" at ", r.place as u64)
-}
-
-pub fn checked<W: Write>(writer: &mut W, c: Checked) -> Result<()> {
-    match c {
-        Checked::Accepted => text(writer, b"accepted"),
-        Checked::Refused(r) => refusal(writer, r),
+pub fn checked<W: Write>(writer: &mut W, found: Result<(), Refusal>) -> io::Result<()> {
+    match found {
+        Ok(()) => write!(writer, "accepted"),
+        Err(r) => refusal(writer, r),
     }
 }
 
-pub fn member_count<W: Write>(writer: &mut W, c: MemberCount) -> Result<()> {
-    match c {
-        MemberCount::Members(n) => labelled(writer, b"members ", n as u64),
-        MemberCount::Refused(r) => refusal(writer, r),
+// A number has the label before it.
+pub fn number<W: Write, N: Display + Drop>(
+    writer: &mut W,
+    label: &str,
+    answer: Result<N, Refusal>,
+) -> io::Result<()> {
+    match answer {
+        Ok(n) => write!(writer, "{label} {n}"),
+        Err(r) => refusal(writer, r),
     }
 }
 
-pub fn needs_found<W: Write>(writer: &mut W, f: NeedsFound) -> Result<()> {
-    match f {
-        NeedsFound::Needs { whole, members } => {
-            labelled(writer, b"whole ", whole)?;
-            labelled(writer, b" members ", members as u64)
-        }
-        NeedsFound::Refused(r) => refusal(writer, r),
+pub fn member_count<W: Write>(writer: &mut W, answer: Result<usize, Refusal>) -> io::Result<()> {
+    number(writer, "members", answer)
+}
+
+pub fn needs_found<W: Write>(
+    writer: &mut W,
+    answer: Result<NeedsFound, Refusal>,
+) -> io::Result<()> {
+    match answer {
+        Ok(NeedsFound { whole, members }) => write!(writer, "whole {whole} members {members}"),
+        Err(r) => refusal(writer, r),
     }
 }
 
-pub fn cap_sums_found<W: Write>(writer: &mut W, f: CapSumsFound) -> Result<()> {
-    match f {
-        CapSumsFound::Total(n) => labelled(writer, b"total ", n),
-        CapSumsFound::Refused(r) => refusal(writer, r),
-    }
-}
-
-pub fn group_cost<W: Write>(writer: &mut W, g: GroupCost) -> Result<()> {
-    match g {
-        GroupCost::Cost { size, cost } => {
-            labelled(writer, b"size ", size as u64)?;
-            labelled(writer, b" cost ", cost)
-        }
-        GroupCost::Refused(r) => refusal(writer, r),
-    }
-}
-
-pub fn total_found<W: Write>(writer: &mut W, f: TotalFound) -> Result<()> {
-    match f {
-        TotalFound::Difference(difference) => labelled_signed(writer, b"total ", difference),
-        TotalFound::Refused(r) => refusal(writer, r),
-    }
-}
-
-fn group_found<W: Write>(writer: &mut W, f: GroupFound) -> Result<()> {
-    match f {
-        GroupFound::Group { amount, size } => {
-            labelled(writer, b"group ", amount)?;
-            labelled(writer, b" of ", size as u64)
-        }
-        GroupFound::NoGroup => text(writer, b"no group"),
-        GroupFound::Refused(r) => refusal(writer, r),
+pub fn group_cost<W: Write>(writer: &mut W, answer: Result<GroupCost, Refusal>) -> io::Result<()> {
+    match answer {
+        Ok(GroupCost { size, cost }) => write!(writer, "size {size} cost {cost}"),
+        Err(r) => refusal(writer, r),
     }
 }
 
 // The words are printed with every answer: they are 0 except where a group is found.
-pub fn searched<W: Write>(writer: &mut W, s: Searched) -> Result<()> {
-    let answer = s.answer;
-    let group = s.group;
-    group_found(writer, answer)?;
-    list(writer, &group)
+pub fn searched<W: Write>(writer: &mut W, searched: Searched) -> io::Result<()> {
+    match searched.answer {
+        Ok(Some(found)) => {
+            let amount = found.amount;
+            let size = found.size;
+            write!(writer, "group {amount} of {size}")?;
+        }
+        Ok(None) => write!(writer, "no group")?,
+        Err(r) => refusal(writer, r)?,
+    }
+    list(writer, &searched.group)
 }
 
-pub fn level_split<W: Write>(writer: &mut W, s: LevelSplit) -> Result<()> {
-    match s {
-        LevelSplit::Split(n) => labelled(writer, b"split ", n as u64),
-        LevelSplit::Refused {
-            number,
-            place,
-            shortfall,
-        } => {
-            refusal(writer, Refusal { number, place })?;
-            labelled(writer, b" short ", shortfall)
+pub fn level_split<W: Write>(
+    writer: &mut W,
+    answer: Result<usize, LevelRefusal>,
+) -> io::Result<()> {
+    match answer {
+        Ok(n) => write!(writer, "split {n}"),
+        Err(found) => {
+            let shortfall = found.shortfall;
+            refusal(writer, found.refusal)?;
+            write!(writer, " short {shortfall}")
         }
     }
 }
 
-pub fn margin_split<W: Write>(writer: &mut W, s: MarginSplit) -> Result<()> {
-    match s {
-        MarginSplit::Split { margin, users } => {
-            labelled(writer, b"margin ", margin)?;
-            labelled(writer, b" users ", users as u64)
-        }
-        MarginSplit::Refused(r) => refusal(writer, r),
+pub fn margin_split<W: Write>(
+    writer: &mut W,
+    answer: Result<MarginSplit, Refusal>,
+) -> io::Result<()> {
+    match answer {
+        Ok(MarginSplit { margin, users }) => write!(writer, "margin {margin} users {users}"),
+        Err(r) => refusal(writer, r),
     }
 }
 
-pub fn stepped<W: Write>(writer: &mut W, s: Stepped) -> Result<()> {
-    match s {
-        Stepped::Next => text(writer, b"next"),
-        Stepped::End => text(writer, b"end"),
-        Stepped::Refused(r) => refusal(writer, r),
-    }
-}
-
-// A length has the label before it.
-pub fn job_length<W: Write>(writer: &mut W, label: &[u8], j: JobLength) -> Result<()> {
-    match j {
-        JobLength::Length(n) => labelled(writer, label, n as u64),
-        JobLength::Refused(r) => refusal(writer, r),
+pub fn stepped<W: Write>(writer: &mut W, answer: Result<Stepped, Refusal>) -> io::Result<()> {
+    match answer {
+        Ok(Stepped::Next) => write!(writer, "next"),
+        Ok(Stepped::End) => write!(writer, "end"),
+        Err(r) => refusal(writer, r),
     }
 }
 
 // An event, as it is read.
-fn event<W: Write>(writer: &mut W, e: Event) -> Result<()> {
-    let vertex = e.vertex as u64;
-    let change = e.change;
+fn event<W: Write>(writer: &mut W, e: Event) -> io::Result<()> {
+    let Event { vertex, change } = e;
     match change {
-        Change::Arrive => labelled(writer, b"+", vertex),
-        Change::Leave => labelled(writer, b"-", vertex),
-        Change::NewCost(amount) => {
-            labelled(writer, b"", vertex)?;
-            labelled(writer, b"=", amount as u64)
-        }
+        Change::Arrive => write!(writer, "+{vertex}"),
+        Change::Leave => write!(writer, "-{vertex}"),
+        Change::NewCost(amount) => write!(writer, "{vertex}={amount}"),
     }
 }
 
-fn quoted<W: Write>(writer: &mut W, q: Quote) -> Result<()> {
+fn quoted<W: Write>(writer: &mut W, q: Quote) -> io::Result<()> {
     event(writer, q.event)?;
-    labelled(writer, b"@", q.committed as u64)
+    let committed = q.committed;
+    write!(writer, "@{committed}")
 }
 
-pub fn quote_given<W: Write>(writer: &mut W, g: QuoteGiven) -> Result<()> {
-    match g {
-        QuoteGiven::Quoted { members, quote } => {
-            labelled(writer, b"members ", members as u64)?;
-            text(writer, b" quote ")?;
+pub fn quote_given<W: Write>(writer: &mut W, answer: Result<Quoted, Refusal>) -> io::Result<()> {
+    match answer {
+        Ok(Quoted { members, quote }) => {
+            write!(writer, "members {members} quote ")?;
             quoted(writer, quote)
         }
-        QuoteGiven::Refused(r) => refusal(writer, r),
+        Err(r) => refusal(writer, r),
     }
 }
 
 // All of a state: the zeros at the end of a list are left out, so that every other entry is printed.
-pub fn state<W: Write>(writer: &mut W, s: State) -> Result<()> {
+pub fn state<W: Write>(writer: &mut W, s: State) -> io::Result<()> {
     let parents = s.parents;
     let costs = s.costs;
     let marks = s.marks;
     let shares = s.shares;
-    labelled(writer, b"arcs ", s.arcs as u64)?;
-    trimmed16(writer, &parents)?;
-    trimmed32(writer, &costs)?;
-    trimmed16(writer, &marks)?;
+    let arcs = s.arcs;
+    let committed = s.committed;
+    write!(writer, "arcs {arcs}")?;
+    trimmed(writer, &parents)?;
+    trimmed(writer, &costs)?;
+    trimmed(writer, &marks)?;
     trimmed(writer, &shares)?;
-    labelled(writer, b": ", s.committed as u64)
-}
-
-// How many entries of a list are printed, where the first n are to be.
-pub fn front(n: usize, length: usize) -> usize
-    ensures { result ≤ length }
-{
-    if n < length { n } else { length }
+    write!(writer, ": {committed}")
 }
 
 // What is printed of the entries past the front: whether they are as before the call.
-pub fn others<W: Write>(writer: &mut W, kept: bool) -> Result<()> {
+pub fn others<W: Write>(writer: &mut W, kept: bool) -> io::Result<()> {
     if kept {
-        text(writer, b"; others kept")
+        write!(writer, "; others kept")
     } else {
-        text(writer, b"; others changed")
+        write!(writer, "; others changed")
     }
 }

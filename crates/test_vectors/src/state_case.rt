@@ -1,22 +1,20 @@
 // The cases of a state made of a tree, with steps on it.
+use crate::read::Tree;
 use crate::{print, step_text, steps};
 use std::io::{Result, Write};
-use test_lines::print::text;
+use test_lines::field;
 
-pub fn run<W: Write>(
-    writer: &mut W,
-    parents: &[u16],
-    costs: &[u32],
-    marks: &[u16],
-    s: &[u8],
-) -> Result<()> {
-    if !step_text::all_readable(s) {
-        return print::bad_case(writer);
-    }
-    let made = events::make_state(parents, costs, marks);
+fn on_state<W: Write>(writer: &mut W, tree: &Tree, s: &[u8]) -> Result<()> {
+    let made = events::make_state(tree.parents, tree.costs, tree.marks);
     let answer = made.answer;
     let state = made.state;
     print::member_count(writer, answer)?;
-    text(writer, b"; ")?;
+    write!(writer, "; ")?;
     steps::run(writer, state, s)
+}
+
+// Field 4 has the steps.
+pub fn run<W: Write>(writer: &mut W, line: &[u8], tree: &Tree) -> Option<Result<()>> {
+    let s = step_text::readable(field::nth(line, 4))?;
+    Some(on_state(writer, tree, s))
 }

@@ -3,13 +3,13 @@ use crate::step_text::Step;
 use crate::{print, step_text};
 use events::{Event, Quote, State};
 use std::io::{Result, Write};
-use test_lines::print::{text, trimmed};
-use test_lines::{list, scan};
+use test_lines::list::Entries;
+use test_lines::print::trimmed;
 
 // The shares after an answer, which end what is printed of a step.
 fn print_shares<W: Write>(writer: &mut W, shares: &[u64]) -> Result<()> {
     trimmed(writer, shares)?;
-    text(writer, b"; ")
+    write!(writer, "; ")
 }
 
 // The answer is printed, and the shares beside it.
@@ -33,9 +33,7 @@ fn commit<W: Write>(writer: &mut W, state: State, quote: Quote) -> Result<State>
 }
 
 // The state after a step: asking leaves it as it is.
-fn state_after<W: Write>(writer: &mut W, state: State, s: &[u8]) -> Result<State> {
-    let read = step_text::read(s);
-    let step = read.step;
+fn state_after<W: Write>(writer: &mut W, state: State, step: Step) -> Result<State> {
     match step {
         Step::Ask(event) => {
             ask(writer, state, event)?;
@@ -45,14 +43,13 @@ fn state_after<W: Write>(writer: &mut W, state: State, s: &[u8]) -> Result<State
     }
 }
 
-// All of the state is printed after the last step.
+// Every entry of the list is a step. All of the state is printed after the last.
 pub fn run<W: Write>(writer: &mut W, start: State, s: &[u8]) -> Result<()> {
     let mut state = start;
-    let mut at = list::first_entry(s);
-    while at <= s.len() {
-        let end = scan::find(s, at, s.len(), b',');
-        state = state_after(writer, state, &s[at..end])?;
-        at = end + 1;
+    for part in Entries::of(s) {
+        if let Some(step) = step_text::read(part) {
+            state = state_after(writer, state, step)?;
+        }
     }
     print::state(writer, state)
 }

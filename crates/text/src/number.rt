@@ -32,11 +32,10 @@ pub fn put_signed(out: &mut [u8], at: usize, n: i64) -> usize
     ensures put { Put out.old at (signed_decimal n) out.new result }
     ensures upper_bound { result ≤ at + 21 }
 {
-    let below = numbers::minus(n);
-    if below == 0 {
-        put_number(out, at, numbers::plus(n))
+    if n < 0 {
+        put_labelled(out, at, b"-", n.unsigned_abs())
     } else {
-        put_labelled(out, at, b"-", below)
+        put_number(out, at, n.unsigned_abs())
     }
 }
 

@@ -1,5 +1,5 @@
 -- The caps in a pass over the members that puts each one at its vertex.
-use Prim.Native.Nat.{ℕ, suc, ◌+◌, ◌≤◌, ◌<◌}
+use Prim.Native.Nat.{ℕ, suc, ◌+◌, ◌-◌, ◌≤◌, ◌<◌}
 use mathlib.Core.Path.{◌≡◌, sym, ap, ap₂, ◌∙◌, fun_ext}
 use mathlib.Core.Bool.{Bool, true, false}
 use mathlib.Core.Logic.{⊎_elim}
@@ -98,8 +98,8 @@ module _ (n : Network) (caps : List ℕ) where
               d (sym (member_at n.member n.arcs u k m) ∙ ap₂ (λ (l : List ℕ) (x : ℕ). get_or l x 0) (sym listed) e
               ∙ next)
 
-      pub placing_on : {out : List ℕ} → Placing out j → Placing (set out i (get_or caps j 0)) (j + 1)
-      placing_on {out} s =
+      placing_at : {out : List ℕ} → Placing out j → Placing (set out i (get_or caps j 0)) (j + 1)
+      placing_at {out} s =
           record {
             kept = length-set out i (get_or caps j 0) ∙ s.kept;
             placed =
@@ -110,6 +110,11 @@ module _ (n : Network) (caps : List ℕ) where
                       ∙ other (suc u) (omega arith) (λ e. d (omega arith))
                 ];
           }
+
+    pub placing_on : {j : ℕ} → j < length vertices → {out : List ℕ} → Placing out j
+        → Placing (set out (get_or vertices j 0 - 1) (get_or caps j 0)) (j + 1)
+    placing_on {j} h s =
+        placing_at j (get_or vertices j 0 - 1) h (omega (arith, (member_in n listed j h).low)) s
 
     -- after the last member
     pub placing_end : {out : List ℕ} {j : ℕ} → length vertices ≤ j → Placing out j → out ≡ list n.arcs (view n caps)

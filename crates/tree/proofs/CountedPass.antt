@@ -1,8 +1,9 @@
 -- The counted costs in a pass from the last arc down.
-use Prim.Native.Nat.{ℕ, suc, ◌≤◌}
+use Prim.Native.Nat.{ℕ, suc, ◌-◌, ◌≤◌, ◌<◌}
 use mathlib.Core.Path.{◌≡◌, refl, ap, ◌∙◌}
 use mathlib.Core.Bool.{Bool, false, ◌||◌}
 use mathlib.Core.List.{List}
+use native.Mathlib.Omega.{arith}
 use lib.ListN.{length, get_or, set, replicate}
 use Rattle.basics.specs.Sum.{pick}
 use Rattle.basics.proofs.Filling.{FilledFrom, from_end, from_next, from_start}
@@ -28,15 +29,16 @@ module _ (ps cs ms : List ℕ) where
   unfolding counted_costs
   counting_end e s = from_start _ _ e s.written (counted (network_of ps cs ms)) (λ u. refl)
 
-  pub counting_on : Sound ps → Marked ps ms → {k i : ℕ} → k ≤ length ps → k ≡ suc i
+  pub counting_on : Sound ps → Marked ps ms → {k : ℕ} → 0 < k → k ≤ length ps
       → {out : List ℕ} {users : List Bool} → Counting out users k
-      → {here up : Bool} {paid : ℕ} → here ≡ in_use ps cs ms everyone k → paid ≡ pick here (get_or cs i 0)
-      → up ≡ (get_or users (get_or ps i 0) false || here)
-      → Counting (set out i paid) (set users (get_or ps i 0) up) i
-  counting_on sound marks {i = i} within next s {paid = paid} eh ep eu =
+      → {here : Bool} {paid : ℕ} → here ≡ in_use ps cs ms everyone k → paid ≡ pick here (get_or cs (k - 1) 0)
+      → Counting (set out (k - 1) paid)
+      (set users (get_or ps (k - 1) 0) (get_or users (get_or ps (k - 1) 0) false || here)) (k - 1)
+  counting_on sound marks {k} low within s {paid = paid} used cost =
+      let next : k ≡ suc (k - 1) = omega arith in
       record {
-        known = using_on ps cs ms everyone sound marks within next s.known eh eu;
+        known = using_on ps cs ms everyone sound marks low within s.known used;
         written =
             from_next _ _ s.written within next paid
-            (ep ∙ ap (λ (b : Bool). pick b (get_or cs i 0)) (eh ∙ ap (in_use ps cs ms everyone) next));
+            (cost ∙ ap (λ (b : Bool). pick b (get_or cs (k - 1) 0)) (used ∙ ap (in_use ps cs ms everyone) next));
       }

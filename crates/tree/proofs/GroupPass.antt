@@ -1,10 +1,11 @@
 -- A group's cost in a pass from the last arc down.
-use Prim.Native.Nat.{ℕ, suc, ◌+◌, ◌-◌, ◌≤◌}
-use mathlib.Core.Path.{◌≡◌, refl, ap, ◌∙◌}
-use mathlib.Core.Bool.{Bool, false, cond, ◌||◌}
+use Prim.Native.Nat.{ℕ, suc, ◌+◌, ◌-◌, ◌≤◌, ◌<◌}
+use mathlib.Core.Path.{◌≡◌, refl, sym, ap, ◌∙◌}
+use mathlib.Core.Bool.{Bool, true, false, ◌||◌}
 use mathlib.Core.List.{List}
 use native.Mathlib.Nat.{zero-add}
 use native.Mathlib.Omega.{arith}
+use borrow.Author.Tests.{eq-eqb, ne_eqb}
 use lib.ListN.{length, get_or, set, replicate}
 use lib.Dec.{eqb}
 use Rattle.limits.specs.Inner.{most_whole}
@@ -14,7 +15,7 @@ use Rattle.game.specs.Network.{group_cost, number, member_count}
 use Rattle.game.specs.Tree.{network_of, of_arc}
 use Rattle.basics.specs.Bit.{bit}
 use Rattle.game.specs.Group.{group_by_number}
-use Rattle.basics.proofs.Bools.{pick_le}
+use Rattle.basics.proofs.Bools.{pick_yes, pick_no, pick_le}
 use Rattle.basics.proofs.Sums.{sum_mono}
 use Rattle.tree.specs.Passes.{Sound, Costed, Marked}
 use Rattle.tree.proofs.Carry.{flags, carried_start}
@@ -52,16 +53,16 @@ module _ (ps cs ms words : List ℕ) where
         costed = zero-add (cost_to ps cs ms words (length ps));
       })
 
-  pub costing_end : {users : List Bool} {j cost k : ℕ} → k ≡ 0 → Costing ps cs ms words users j cost k
-      → cost ≡ group_cost (network_of ps cs ms) (chosen ps cs ms words)
-  costing_end e s = omega (arith, s.costed, ap (cost_to ps cs ms words) e)
-
   pub costing_few : Sound ps → {users : List Bool} {j cost k : ℕ} → k ≤ length ps
       → Costing ps cs ms words users j cost k → j ≤ most_arcs
   costing_few sound {k} h s = omega (arith, s.left, up_to_le ms k, sound.few)
 
-  module _ (sound : Sound ps) (costs : Costed ps cs) (marks : Marked ps ms) {k i : ℕ} (within : k ≤ length ps)
-      (next : k ≡ suc i) {users : List Bool} {j cost : ℕ} (s : Costing ps cs ms words users j cost k) where
+  -- the turn of arc k, whose entries are those at k - 1
+  module _ (sound : Sound ps) (costs : Costed ps cs) (marks : Marked ps ms) {k : ℕ} (low : 0 < k)
+      (within : k ≤ length ps) {users : List Bool} {j cost : ℕ} (s : Costing ps cs ms words users j cost k) where
+    next : k ≡ suc (k - 1)
+    next = omega arith
+
     -- no group costs more than the whole
     group_bound : group_cost (network_of ps cs ms) (chosen ps cs ms words) ≤ most_whole
     unfolding group_cost
@@ -74,39 +75,50 @@ module _ (ps cs ms words : List ℕ) where
         )
 
     costed_on : (here : Bool) → here ≡ in_use ps cs ms words k
-        → cost + pick here (get_or cs i 0) + cost_to ps cs ms words i
+        → cost + pick here (get_or cs (k - 1) 0) + cost_to ps cs ms words (k - 1)
         ≡ group_cost (network_of ps cs ms) (chosen ps cs ms words)
     costed_on here e =
         omega (
           arith,
           s.costed,
-          ap (λ (b : Bool). pick b (get_or cs i 0)) (e ∙ ap (in_use ps cs ms words) next),
+          ap (λ (b : Bool). pick b (get_or cs (k - 1) 0)) (e ∙ ap (in_use ps cs ms words) next),
           ap (cost_to ps cs ms words) next,
         )
 
-    pub costing_room : {w : ℕ} → w ≡ pick (eqb (get_or ms i 0) 1) 1 → w ≤ j
-    costing_room e = omega (arith, s.left, up_to_next ms next e)
+    one : get_or ms (k - 1) 0 ≡ 1 → 1 ≡ pick (eqb (get_or ms (k - 1) 0) 1) 1
+    one e = sym (pick_yes 1 (eq-eqb (get_or ms (k - 1) 0) 1 e))
 
-    -- at a member by its bit, elsewhere by a child arc
-    pub costing_used : {w : ℕ} → w ≡ pick (eqb (get_or ms i 0) 1) 1
-        → cond (eqb (get_or ms i 0) 1) (bit words (j - w)) (get_or users k false) ≡ in_use ps cs ms words k
-    costing_used {w} e =
-        let numbered : j - w ≡ number (network_of ps cs ms) k =
-        ap (λ (x : ℕ). x - w) s.left ∙ up_to_number ms next e in
-        ap (λ (x : ℕ). cond (eqb (get_or ms i 0) 1) (bit words x) (get_or users k false)) numbered
-        ∙ UsePass.using_at ps cs ms (chosen ps cs ms words) sound marks within next s.known
+    none : (get_or ms (k - 1) 0 ≡ 1 → ⊥) → 0 ≡ pick (eqb (get_or ms (k - 1) 0) 1) 1
+    none d = sym (pick_no 1 (ne_eqb (get_or ms (k - 1) 0) 1 d))
 
-    pub costing_fits : {here : Bool} {paid : ℕ} → here ≡ in_use ps cs ms words k → paid ≡ pick here (get_or cs i 0)
-        → cost + paid ≤ most_whole
-    costing_fits {here} e p = omega (arith, costed_on here e, group_bound)
+    -- a member's number is that of the members before it; the bit of that number says whether its arc is used
+    pub left_at_member : get_or ms (k - 1) 0 ≡ 1 → j ≡ up_to ms (k - 1) + 1
+    left_at_member e = s.left ∙ up_to_next ms next (one e)
 
-    pub costing_on : {w paid : ℕ} {here up : Bool} → w ≡ pick (eqb (get_or ms i 0) 1) 1
-        → here ≡ in_use ps cs ms words k → paid ≡ pick here (get_or cs i 0)
-        → up ≡ (get_or users (get_or ps i 0) false || here)
-        → Costing ps cs ms words (set users (get_or ps i 0) up) (j - w) (cost + paid) i
-    costing_on {here} ew eh ep eu =
-        record {
-          left = omega (arith, s.left, up_to_next ms next ew);
-          known = UsePass.using_on ps cs ms (chosen ps cs ms words) sound marks within next s.known eh eu;
-          costed = ap (λ (x : ℕ). cost + x + cost_to ps cs ms words i) ep ∙ costed_on here eh;
-        }
+    pub used_at_member : get_or ms (k - 1) 0 ≡ 1 → bit words (j - 1) ≡ in_use ps cs ms words k
+    used_at_member e =
+        let numbered : j - 1 ≡ number (network_of ps cs ms) k =
+        ap (λ (x : ℕ). x - 1) s.left ∙ up_to_number ms next (one e) in
+        ap (bit words) numbered
+        ∙ UsePass.using_member ps cs ms (chosen ps cs ms words) sound marks low within s.known e
+
+    -- at another vertex a child arc does
+    pub left_elsewhere : (get_or ms (k - 1) 0 ≡ 1 → ⊥) → j ≡ up_to ms (k - 1)
+    left_elsewhere d = omega (arith, s.left, up_to_next ms next (none d))
+
+    pub used_elsewhere : (get_or ms (k - 1) 0 ≡ 1 → ⊥) → get_or users (k - 1 + 1) false ≡ in_use ps cs ms words k
+    used_elsewhere d = UsePass.using_other ps cs ms (chosen ps cs ms words) sound marks low within s.known d
+
+    module _ {here : Bool} (used : here ≡ in_use ps cs ms words k) where
+      pub costing_fits : here ≡ true → cost + get_or cs (k - 1) 0 ≤ most_whole
+      costing_fits e = omega (arith, costed_on here used, pick_yes (get_or cs (k - 1) 0) e, group_bound)
+
+      pub costing_on : {left paid : ℕ} → left ≡ up_to ms (k - 1) → paid ≡ cost + pick here (get_or cs (k - 1) 0)
+          → Costing ps cs ms words
+          (set users (get_or ps (k - 1) 0) (get_or users (get_or ps (k - 1) 0) false || here)) left paid (k - 1)
+      costing_on e p =
+          record {
+            left = e;
+            known = UsePass.using_on ps cs ms (chosen ps cs ms words) sound marks low within s.known used;
+            costed = rw p (costed_on here used);
+          }

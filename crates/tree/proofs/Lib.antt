@@ -1,5 +1,6 @@
 pub mod Carry
 pub mod Bounds
+mod ListSums
 pub mod MemberPass
 pub mod InwardPass
 mod SumPass

@@ -1,20 +1,18 @@
 -- What the passes ask of the lists of an accepted tree, and of its counted costs in a local list.
-use Prim.Native.Nat.{ℕ, ◌-◌, ◌≤◌}
-use mathlib.Core.Path.{◌≡◌, sym, ap}
+use Prim.Native.Nat.{ℕ, ◌-◌}
+use mathlib.Core.Path.{◌≡◌, sym}
 use mathlib.Core.List.{List, ◌++◌}
-use native.Mathlib.Omega.{arith}
 use lib.ListN.{length, take, replicate}
 use Rattle.limits.specs.Limits.{most_arcs}
 use Rattle.basics.specs.Sum.{count}
 use Rattle.game.specs.Network.{member_count}
 use Rattle.game.specs.Tree.{Tree, marked, counted_costs, network}
-use Rattle.game.proofs.Counted.{counted_length}
 use Rattle.answer_forms.specs.Answer.{accepted}
 use Rattle.answers.specs.Checks.{tree_check}
 use Rattle.answers.proofs.Accepted.{tree_accepted}
 use Rattle.tree.specs.Passes.{Sound, Costed, Marked}
 use Rattle.tree.proofs.MembersListed.{marks_count}
-use Rattle.tree.proofs.LocalCosts.{counted_part, sound_lent, sound_lists}
+use Rattle.tree.proofs.LocalCosts.{sound_lent, sound_lists}
 
 module _ (t : Tree) (ok : tree_check t ≡ accepted) where
   pub accepted_sound : Sound t.parents
@@ -39,7 +37,3 @@ module _ (t : Tree) (ok : tree_check t ≡ accepted) where
       → Sound t.parents
       × (Costed t.parents (take (length t.parents - 0) (cs ++ rest)) × Marked t.parents t.marks)
   accepted_lists = sound_lists t accepted_sound accepted_costed accepted_marked
-
-  pub counted_few : {cs : List ℕ} → cs ≡ counted_costs t → (rest : List ℕ)
-      → length (take (length t.parents - 0) (cs ++ rest)) ≤ most_arcs
-  counted_few are rest = omega (arith, ap length (counted_part t are rest), counted_length t, accepted_sound.few)

@@ -1,16 +1,17 @@
 -- The arcs that a group uses, in a pass from the last arc down that carries to each arc's parent that the arc is used.
-use Prim.Native.Nat.{ℕ, suc, ◌≤◌}
+use Prim.Native.Nat.{ℕ, suc, ◌+◌, ◌-◌, ◌≤◌, ◌<◌}
 use mathlib.Core.Path.{◌≡◌, sym, ap, ap₂, ◌∙◌, subst}
-use mathlib.Core.Bool.{Bool, true, false, cond, ◌&&◌, ◌||◌, and-true, and-false, or-false}
-use mathlib.Core.Logic.{⊎_elim}
+use mathlib.Core.Bool.{Bool, true, false, ◌&&◌, ◌||◌, and-true, and-false, or-false}
 use mathlib.Core.List.{List}
+use native.Mathlib.Numerals.{add-one}
 use native.Mathlib.Omega.{arith}
+use borrow.Author.Tests.{eq-eqb, ne_eqb}
 use lib.ListN.{length, get_or, set}
 use lib.Dec.{eqb}
 use Rattle.basics.specs.Sum.{some}
 use Rattle.game.specs.Network.{used}
 use Rattle.game.specs.Tree.{network_of, of_arc, has_child, marked}
-use Rattle.basics.proofs.Bools.{both, clash, not_so, and_first}
+use Rattle.basics.proofs.Bools.{clash, not_so, and_first}
 use Rattle.basics.proofs.Sums.{some_of, some_is}
 use Rattle.game.proofs.Groups.{used_children}
 use Rattle.tree.specs.Passes.{Sound, Marked}
@@ -25,54 +26,59 @@ module _ (ps cs ms : List ℕ) (g : ℕ → Bool) where
   abbrev pub Using : ℕ → List Bool → Type 0
   Using k users = Carried flags ps in_use k users
 
-  module _ (sound : Sound ps) (marks : Marked ps ms) {k i : ℕ} (within : k ≤ length ps) (next : k ≡ suc i)
+  -- the turn of arc k, whose entries are those at k - 1
+  module _ (sound : Sound ps) (marks : Marked ps ms) {k : ℕ} (low : 0 < k) (within : k ≤ length ps)
       {users : List Bool} (at_k : Using k users) where
-    using_here : Using (suc i) users
+    next : k ≡ suc (k - 1)
+    next = omega arith
+
+    using_here : Using (suc (k - 1)) users
     using_here = subst (λ (u : ℕ). Using u users) next at_k
 
     abbrev by_child : Bool
-    by_child = some (length ps) (λ u. eqb (of_arc ps u) (suc i) && in_use u)
+    by_child = some (length ps) (λ u. eqb (of_arc ps u) (suc (k - 1)) && in_use u)
 
-    known : get_or users k false ≡ by_child
-    known =
-        ap (λ (u : ℕ). get_or users u false) next
-        ∙ carried_at flags ps in_use sound i (omega arith) users using_here
+    known : get_or users (k - 1 + 1) false ≡ by_child
+    known = rw add-one (carried_at flags ps in_use sound (k - 1) (omega arith) users using_here)
 
-    by_rule : in_use k ≡ ((g (suc i) && marked ms (suc i)) || by_child)
-    by_rule = ap in_use next ∙ used_children (network_of ps cs ms) sound.rising g (suc i) (omega arith)
+    by_rule : in_use k ≡ ((g (suc (k - 1)) && marked ms (suc (k - 1))) || by_child)
+    by_rule = ap in_use next ∙ used_children (network_of ps cs ms) sound.rising g (suc (k - 1)) (omega arith)
 
-    no_child : marked ms (suc i) ≡ true → by_child ≡ false
+    no_child : marked ms (suc (k - 1)) ≡ true → by_child ≡ false
     unfolding has_child
     no_child m =
         not_so by_child
         (λ c.
-        let u = some_is (length ps) (λ u. eqb (of_arc ps u) (suc i) && in_use u) c in
+        let u = some_is (length ps) (λ u. eqb (of_arc ps u) (suc (k - 1)) && in_use u) c in
         clash
-        (some_of (length ps) u.which (λ w. eqb (of_arc ps w) (suc i)) u.within
-        (and_first (eqb (of_arc ps u.which) (suc i)) (in_use u.which) u.passes))
-        (marks.ends (suc i) m))
+        (some_of (length ps) u.which (λ w. eqb (of_arc ps w) (suc (k - 1))) u.within
+        (and_first (eqb (of_arc ps u.which) (suc (k - 1))) (in_use u.which) u.passes))
+        (marks.ends (suc (k - 1)) m))
 
-    -- at a member by its being in the group, elsewhere by a child arc
-    pub using_at : cond (eqb (get_or ms i 0) 1) (g k) (get_or users k false) ≡ in_use k
-    using_at =
-        ⊎_elim
-        (λ (m : marked ms (suc i) ≡ true).
-        ap (λ (b : Bool). cond b (g k) (get_or users k false)) m
-        ∙ ap g next
+    -- a member's arc is used where the member is in the group
+    pub using_member : get_or ms (k - 1) 0 ≡ 1 → g k ≡ in_use k
+    using_member e =
+        let m : marked ms (suc (k - 1)) ≡ true = eq-eqb (get_or ms (k - 1) 0) 1 e in
+        ap g next
         ∙ sym
-        (ap₂ (λ (a b : Bool). a || b)
-        (ap (λ (b : Bool). g (suc i) && b) m ∙ and-true (g (suc i))) (no_child m)
-        ∙ or-false (g (suc i)))
-        ∙ sym by_rule)
-        (λ (m : marked ms (suc i) ≡ false).
-        ap (λ (b : Bool). cond b (g k) (get_or users k false)) m
-        ∙ known
-        ∙ sym (ap (λ (b : Bool). b || by_child) (ap (λ (b : Bool). g (suc i) && b) m ∙ and-false (g (suc i))))
-        ∙ sym by_rule)
-        (both (marked ms (suc i)))
+        (by_rule
+        ∙ ap₂ (λ (a b : Bool). a || b)
+        (ap (λ (b : Bool). g (suc (k - 1)) && b) m ∙ and-true (g (suc (k - 1)))) (no_child m)
+        ∙ or-false (g (suc (k - 1))))
 
-    pub using_on : {here up : Bool} → here ≡ in_use k → up ≡ (get_or users (get_or ps i 0) false || here)
-        → Using i (set users (get_or ps i 0) up)
-    using_on {here} {up} eh eu =
-        carried_on flags ps in_use sound i (omega arith) users using_here up
-        (eu ∙ ap (λ (b : Bool). get_or users (get_or ps i 0) false || b) (eh ∙ ap in_use next))
+    -- another arc where one of its child arcs is
+    pub using_other : (get_or ms (k - 1) 0 ≡ 1 → ⊥) → get_or users (k - 1 + 1) false ≡ in_use k
+    using_other d =
+        let m : marked ms (suc (k - 1)) ≡ false = ne_eqb (get_or ms (k - 1) 0) 1 d in
+        known
+        ∙ sym
+        (by_rule
+        ∙ ap (λ (b : Bool). b || by_child)
+        (ap (λ (b : Bool). g (suc (k - 1)) && b) m ∙ and-false (g (suc (k - 1)))))
+
+    pub using_on : {here : Bool} → here ≡ in_use k
+        → Using (k - 1) (set users (get_or ps (k - 1) 0) (get_or users (get_or ps (k - 1) 0) false || here))
+    using_on {here} e =
+        carried_on flags ps in_use sound (k - 1) (omega arith) users using_here
+        (get_or users (get_or ps (k - 1) 0) false || here)
+        (ap (λ (b : Bool). get_or users (get_or ps (k - 1) 0) false || b) (e ∙ ap in_use next))

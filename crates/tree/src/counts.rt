@@ -5,7 +5,6 @@ ghost use Rattle.game.specs.ByArc.{user_count};
 ghost use Rattle.tree.specs.Passes.{Sound, Listed, network_at};
 
 use crate::caps::write_cap_sums;
-use crate::constant::write_all;
 
 // Writes for each arc the number of its users. `ones` is room for one entry a member.
 pub fn write_user_counts(parents: &[u16], vertices: &[u16], ones: &mut [u64], out: &mut [u64])
@@ -17,6 +16,6 @@ pub fn write_user_counts(parents: &[u16], vertices: &[u16], ones: &mut [u64], ou
         ≡ list (length parents.now)
         (user_count (network_at parents.now [] vertices.now)) }
 {
-    write_all(ones, 1);
+    ones.fill(1);
     write_cap_sums(parents, vertices, ones, out);
 }

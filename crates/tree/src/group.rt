@@ -6,8 +6,6 @@ ghost use Rattle.basics.specs.Bit.{bit};
 ghost use Rattle.game.specs.Group.{group_by_number};
 ghost use Rattle.tree.specs.Passes.{Sound, Costed, Marked};
 
-use crate::members::one_if_marked;
-use crate::usage::{cost_if, either, used_here};
 use limits::MOST_ARCS;
 
 // The cost of the group whose member numbers are set in the words.
@@ -28,16 +26,18 @@ pub fn cost_of(
     let mut used = [false; MOST_ARCS + 1];
     let mut j = members;
     let mut cost: u64 = 0;
-    let mut k = parents.len() + 1;
-    while k > 1 {
-        k -= 1;
-        let mark = marks[k - 1];
-        j -= one_if_marked(mark);
-        let chosen = numbers::bit_of(words[j / 64], j % 64);
-        let here = used_here(mark, chosen, used[k]);
-        cost += cost_if(here, costs[k - 1]);
-        let p = parents[k - 1] as usize;
-        used[p] = either(used[p], here);
+    for i in (0..parents.len()).rev() {
+        let here = if marks[i] == 1 {
+            j -= 1;
+            numbers::bit_of(words[j / 64], j % 64)
+        } else {
+            used[i + 1]
+        };
+        if here {
+            cost += u64::from(costs[i]);
+        }
+        let p = usize::from(parents[i]);
+        used[p] |= here;
     }
     cost
 }

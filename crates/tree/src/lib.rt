@@ -3,7 +3,6 @@
 #![tactic(auto)]
 
 mod caps;
-mod constant;
 mod counted;
 mod counts;
 mod group;
@@ -11,15 +10,13 @@ mod members;
 mod needs;
 mod placed;
 mod sums;
-mod usage;
 mod whole;
 
 pub use caps::write_cap_sums;
-pub use constant::write_all;
 pub use counted::write_counted;
 pub use counts::write_user_counts;
 pub use group::cost_of;
-pub use members::{count_members, one_if_marked, write_members};
+pub use members::{count_members, write_members};
 pub use needs::write_needs;
 pub use placed::write_at_members;
 pub use whole::whole_cost;

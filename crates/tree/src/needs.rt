@@ -12,10 +12,8 @@ fn widen(costs: &[u32], out: &mut [u64])
     requires { length out.old ≡ length costs.now }
     ensures { out.new ≡ costs.now }
 {
-    let mut i = 0;
-    while i < costs.len() {
-        out[i] = costs[i] as u64;
-        i += 1;
+    for (i, cost) in costs.iter().enumerate() {
+        out[i] = u64::from(*cost);
     }
 }
 

@@ -4,8 +4,6 @@ ghost use Rattle.basics.specs.Sum.{pick, list};
 ghost use Rattle.game.specs.Network.{number};
 ghost use Rattle.tree.specs.Passes.{Sound, Listed, Capped, network_at};
 
-use crate::constant::write_all;
-
 // Writes each member's number at its arc, and 0 at the other arcs. The parents stand for the network.
 pub fn write_at_members(parents: &[u16], vertices: &[u16], values: &[u64], out: &mut [u64])
     requires sound { Sound parents.now }
@@ -16,11 +14,9 @@ pub fn write_at_members(parents: &[u16], vertices: &[u16], values: &[u64], out: 
         out.new ≡ list (length parents.now)
         (λ v. pick (n.member v) (get_or values.now (number n v) 0)) }
 {
-    write_all(out, 0);
-    let mut j = 0;
-    while j < vertices.len() {
-        let place = vertices[j] as usize - 1;
+    out.fill(0);
+    for (j, vertex) in vertices.iter().enumerate() {
+        let place = usize::from(*vertex) - 1;
         out[place] = values[j];
-        j += 1;
     }
 }

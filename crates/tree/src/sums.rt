@@ -18,13 +18,11 @@ pub fn add_up(parents: &[u16], out: &mut [u64]) -> u64
         (sum_below (network_of parents.now [] []) (of_arc out.old)) }
 {
     let mut below = [0u64; MOST_ARCS + 1];
-    let mut k = parents.len() + 1;
-    while k > 1 {
-        k -= 1;
-        let total = below[k] + out[k - 1];
-        out[k - 1] = total;
-        let p = parents[k - 1] as usize;
-        below[p] = below[p] + total;
+    for i in (0..parents.len()).rev() {
+        let total = below[i + 1] + out[i];
+        out[i] = total;
+        let p = usize::from(parents[i]);
+        below[p] += total;
     }
     below[0]
 }

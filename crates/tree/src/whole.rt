@@ -9,11 +9,5 @@ pub fn whole_cost(costs: &[u32]) -> u64
     requires { length costs.now ≤ most_arcs }
     ensures { result ≡ sum (length costs.now) (of_arc costs.now) }
 {
-    let mut total: u64 = 0;
-    let mut i = 0;
-    while i < costs.len() {
-        total += costs[i] as u64;
-        i += 1;
-    }
-    total
+    costs.iter().map(|cost| u64::from(*cost)).sum()
 }

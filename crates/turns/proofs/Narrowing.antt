@@ -1,17 +1,15 @@
 -- The search for the bound: two numbers that come nearer to each other.
 use Prim.Native.Nat.{ℕ, zero, suc, ◌+◌, ◌-◌, ◌≤◌, ◌<◌}
-use mathlib.Core.Path.{◌≡◌, sym, ap, ◌∙◌}
-use mathlib.Core.Bool.{true, false, cond}
-use mathlib.Core.Logic.{⊎_elim}
+use mathlib.Core.Path.{◌≡◌, ap, ◌∙◌}
+use mathlib.Core.Bool.{true}
 use mathlib.Core.List.{List}
 use native.Mathlib.Decide.{dec_lt}
 use native.Mathlib.Numerals.{add-one}
 use native.Mathlib.Omega.{arith}
-use borrow.Author.Tests.{le-ltb, ltb-true, ltb-false}
+use borrow.Author.Tests.{le-ltb}
 use lib.ListN.{length, get_or}
 use lib.Dec.{ltb}
 use Rattle.basics.specs.Sum.{size}
-use Rattle.basics.proofs.Bools.{both}
 use Rattle.basics.proofs.Sizes.{size_more, size_none}
 use Rattle.game.proofs.Keys.{below_mono, below_all}
 use Rattle.turns.specs.Keys.{lower, key_limit, Keys}
@@ -86,44 +84,3 @@ module _ (keys : List ℕ) where
                   b.too_many,
                 ))
           ]
-
-      pub bracket_on : (middle count : ℕ) → low < middle → middle < high → count ≡ lower keys middle
-          → (low' high' under' over' : ℕ)
-          → low' ≡ cond (ltb more count) low middle → under' ≡ cond (ltb more count) under count
-          → high' ≡ cond (ltb more count) middle high → over' ≡ cond (ltb more count) count over
-          → Bracket low' high' under' over' (tries + 1) × (high' - low' < high - low)
-      bracket_on middle count above inside is low' high' under' over' el eu eh eo =
-          ⊎_elim
-          (λ (e : ltb more count ≡ true).
-          let l : low' ≡ low = el ∙ rw e in
-          let u : under' ≡ under = eu ∙ rw e in
-          let h : high' ≡ middle = eh ∙ rw e in
-          let o : over' ≡ count = eo ∙ rw e in
-          rw (l, u, h, o) (
-            record {
-              limit = omega (arith, b.limit);
-              below_low = b.below_low;
-              below_high = sym is;
-              enough = b.enough;
-              too_many = ltb-true more count e;
-              counted = omega (arith, b.counted);
-            },
-            omega arith,
-          ))
-          (λ (e : ltb more count ≡ false).
-          let l : low' ≡ middle = el ∙ rw e in
-          let u : under' ≡ count = eu ∙ rw e in
-          let h : high' ≡ high = eh ∙ rw e in
-          let o : over' ≡ over = eo ∙ rw e in
-          rw (l, u, h, o) (
-            record {
-              limit = b.limit;
-              below_low = sym is;
-              below_high = b.below_high;
-              enough = omega (arith, ltb-false more count e);
-              too_many = b.too_many;
-              counted = omega (arith, b.counted);
-            },
-            omega arith,
-          ))
-          (both (ltb more count))

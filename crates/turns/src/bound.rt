@@ -4,7 +4,7 @@ ghost use Rattle.limits.specs.Limits.{most_arcs};
 ghost use Rattle.turns.specs.Keys.{lower, key_limit, Keys};
 
 use crate::count::count_below;
-use crate::ends::{by_order, ends_of};
+use crate::ends::ends_of;
 
 // After so many tries the way is halved.
 const TRIES: u32 = 6;
@@ -29,15 +29,13 @@ fn guess(low: u32, high: u32, under: u32, over: u32, more: u32, base: u32, tries
     requires more_lt_over { more < over }
     requires more_le_most_arcs { more ≤ most_arcs }
 {
-    if tries == 0 {
-        if base < high - low {
-            return high - base;
-        }
+    if tries == 0 && base < high - low {
+        high - base
+    } else if TRIES <= tries {
+        low + (high - low) / 2
+    } else {
+        in_proportion(low, high, under, over, more)
     }
-    if TRIES <= tries {
-        return low + (high - low) / 2;
-    }
-    in_proportion(low, high, under, over, more)
 }
 
 // The number itself where it is between the two, else the middle.
@@ -46,12 +44,11 @@ fn inside(low: u32, high: u32, number: u32) -> u32
     ensures lower_bound { low < result }
     ensures upper_bound { result < high }
 {
-    if low < number {
-        if number < high {
-            return number;
-        }
+    if low < number && number < high {
+        number
+    } else {
+        low + (high - low) / 2
     }
-    low + (high - low) / 2
 }
 
 // `under` keys are below `low`, at most as many as there are units, and `over` below `high`, more than that.
@@ -70,10 +67,13 @@ pub fn find_bound(keys: &[u32], base: u32, more: u32) -> u32
         let number = guess(low, high, under, over, more, base, tries);
         let middle = inside(low, high, number);
         let count = count_below(keys, middle);
-        low = by_order(more, count, low, middle);
-        under = by_order(more, count, under, count);
-        high = by_order(more, count, middle, high);
-        over = by_order(more, count, count, over);
+        if more < count {
+            high = middle;
+            over = count;
+        } else {
+            low = middle;
+            under = count;
+        }
         tries += 1;
     }
     low

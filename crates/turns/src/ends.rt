@@ -1,22 +1,14 @@
 // The least and the greatest key.
-ghost use Rattle.std.specs.Prelude.{◌≡◌, ◌<◌, cond, length, ltb};
-ghost use Rattle.turns.specs.Keys.{Keys};
 ghost use Rattle.turns.specs.Bound.{Ends};
+ghost use Rattle.turns.specs.Keys.{Keys};
 
 // Every key is below it.
 const KEY_LIMIT: u32 = 1048576;
 
-#[derive(Clone, Copy)]
+#[derive(Debug, Clone, Copy, PartialEq, Eq)]
 pub struct KeyEnds {
     pub least: u32,
     pub greatest: u32,
-}
-
-// One of two numbers, by whether a is below b.
-pub fn by_order(a: u32, b: u32, below: u32, otherwise: u32) -> u32
-    ensures { result ≡ cond (ltb a b) below otherwise }
-{
-    if a < b { below } else { otherwise }
 }
 
 pub fn ends_of(keys: &[u32]) -> KeyEnds
@@ -25,12 +17,9 @@ pub fn ends_of(keys: &[u32]) -> KeyEnds
 {
     let mut least = KEY_LIMIT;
     let mut greatest: u32 = 0;
-    let mut i = 0;
-    while i < keys.len() {
-        let key = keys[i];
-        least = by_order(key, least, key, least);
-        greatest = by_order(greatest, key, key, greatest);
-        i += 1;
+    for key in keys {
+        least = least.min(*key);
+        greatest = greatest.max(*key);
     }
     KeyEnds { least, greatest }
 }

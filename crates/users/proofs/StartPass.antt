@@ -6,14 +6,14 @@ use mathlib.Core.List.{List}
 use native.Mathlib.Decide.{ℕ_discrete}
 use native.Mathlib.Omega.{arith}
 use borrow.Author.Tests.{eq-eqb, ne_eqb}
-use lib.ListN.{length, get_or, set, replicate, length-set, length-replicate}
+use lib.ListN.{length, get_or, set, length-set}
 use lib.Seq.{get_or-set_same, get_or-set_other}
 use Rattle.limits.specs.Limits.{most_arcs}
 use Rattle.game.specs.Tree.{of_arc}
 use Rattle.basics.proofs.Bools.{pick_yes, pick_no}
 use Rattle.basics.proofs.Sums.{In, sum_zero}
 use Rattle.tree.specs.Passes.{Sound}
-use Rattle.users.specs.Layout.{Counts, leaving, Begins, Begun}
+use Rattle.users.specs.Layout.{Counts, leaving, Begins}
 
 module _ (ps counts : List ℕ) where
   -- after the arcs 1 to i the next child arc of v begins at `place`
@@ -27,22 +27,6 @@ module _ (ps counts : List ℕ) where
     pub places : length next ≡ 1024
     pub begins : Begins i (of_arc ps) (of_arc counts) (of_arc starts)
     pub nexts : (v : ℕ) → v ≤ i → Next starts i v (get_or next v 0)
-
-  pub beginning_start : {starts : List ℕ} → length starts ≡ length ps → Beginning starts (replicate 1024 0) 0
-  beginning_start {starts} l =
-      record {
-        kept = l;
-        places = length-replicate {A = ℕ} 1024 0;
-        begins = record { source = refl; after = λ u h. absurd (omega arith) };
-        nexts =
-            λ v h.
-            let e : v ≡ 0 = omega arith in
-            rw e (record { is = refl; small = omega arith });
-      }
-
-  pub beginning_end : {starts next : List ℕ} {i : ℕ} → length ps ≤ i → Beginning starts next i → Begun ps counts starts
-  beginning_end h s =
-      record { kept = s.kept; begins = record { source = refl; after = λ u l. s.begins.after u (omega arith) } }
 
   module _ (sound : Sound ps) (counted : Counts (length ps) counts) {starts next : List ℕ} {i : ℕ}
       (within : i < length ps) (s : Beginning starts next i) where
@@ -65,9 +49,6 @@ module _ (ps counts : List ℕ) where
 
     at_parent : Next starts i p w
     at_parent = s.nexts p (sound.rising i)
-
-    pub start_fits : w + get_or counts i 0 ≤ 1046529
-    start_fits = omega (arith, at_parent.small, counted.limited i within, sound.few)
 
     -- what stands for the vertices up to i stays
     kept_before : (v : ℕ) → v ≤ i → of_arc starts' v ≡ of_arc starts v

@@ -18,14 +18,12 @@ fn write_starts(parents: &[u16], counts: &[u64], starts: &mut [u64])
     ensures { Begun parents.now counts.now starts.new }
 {
     let mut next = [0u64; MOST_ARCS + 1];
-    let mut i = 0;
-    while i < parents.len() {
-        let p = parents[i] as usize;
+    for i in 0..parents.len() {
+        let p = usize::from(parents[i]);
         let start = next[p];
         starts[i] = start;
         next[p] = start + counts[i];
         next[i + 1] = start;
-        i += 1;
     }
 }
 
@@ -35,12 +33,10 @@ fn write_order(vertices: &[u16], starts: &[u64], order: &mut [u16])
     requires order_len { length order.old ≡ length vertices.now }
     ensures { Ordered vertices.now starts.now order.new }
 {
-    let mut j = 0;
-    while j < vertices.len() {
-        let arc = vertices[j] as usize - 1;
+    for (j, vertex) in vertices.iter().enumerate() {
+        let arc = usize::from(*vertex) - 1;
         let place = starts[arc] as usize;
         order[place] = j as u16;
-        j += 1;
     }
 }
 

@@ -10,7 +10,8 @@ pub returns-then-clear-eq0 : goal.returns-then-clear-eq0
 returns-then-clear-eq0 c =
     let at = c.loop-j in
     let set = c.clear_run-clear.ensures.none c.if-clear-eq0.true in
-    c.refuse.ensures ∙ sym (at.invariant ∙ bits_found _ (1024 - at.j) at.j (omega arith) set)
+    let found = sym (at.invariant ∙ bits_found _ (1024 - at.j) at.j (omega arith) set) in
+    rw (c.at.ensures.reason_value, c.at.ensures.place_value) found
 
 pub loop-j-preserved : goal.loop-j-preserved
 loop-j-preserved c =

@@ -6,6 +6,4 @@ use Rattle.dead_ends.proofs.write_dead_ends.Goals as goal
 
 pub returns : goal.returns
 unfolding dead_ends
-returns c =
-    let inv = c.loop-i.invariant in
-    filling_list _ _ inv.3 (omega (arith, inv.3.kept)) _ (λ u. refl)
+returns c = filling_list _ _ c.loop-i.invariant (omega (arith, c.loop-i.invariant.kept)) _ (λ u. refl)

@@ -1,6 +1,5 @@
-use Rattle.std.proofs.Common.{◌∙◌}
-use Rattle.limits.specs.Limits.{most_arcs}
-use Rattle.basics.proofs.Lists.{zeros_length}
+use Rattle.std.proofs.Common.{ℕ, ◌∙◌, arith, length-take}
+use Rattle.std.proofs.lemmas.List.{length-replicate}
 use Rattle.game.proofs.Encoding.{zeros}
 use Rattle.tree.proofs.Vertices.{vertices_few}
 use Rattle.key_search.proofs.Vertices.{vertices_apart, shares_found}
@@ -20,14 +19,13 @@ place_members-requires c =
 pub search-requires : goal.search-requires
 search-requires c =
     let pre = c.requires in
-    let room = zeros_length most_arcs _ pre.sound.few in
     record {
       sound = pre.sound;
       listed = pre.listed;
       capped = pre.capped;
       bounds = pre.bounds;
       at_vertices = c.place_members.ensures;
-      order_len = room;
+      order_len = omega (arith, pre.sound.few, length-take {A = ℕ}, length-replicate {A = ℕ});
       by_index = zeros 1024;
     }
 

@@ -1,9 +1,8 @@
-use mathlib.Core.Path.{refl}
-use native.Mathlib.Omega.{arith}
-use Rattle.basics.proofs.Filling.{filling_list}
+use Rattle.parent_lists.proofs.Carry.{cleared_is, nothing_cleared}
 use Rattle.parent_lists.proofs.clear_behind.Goals as goal
 
-pub returns : goal.returns
-returns c =
-    let at = c.loop-i in
-    filling_list _ _ at.invariant.1 (omega (arith, at.invariant.1.kept)) _ (λ u. refl)
+pub returns-then-arc-parents : goal.returns-then-arc-parents
+returns-then-arc-parents c = cleared_is _ _ c.if-arc-parents.true (c.fill.ensures.after (λ y e. e))
+
+pub returns-else-arc-parents : goal.returns-else-arc-parents
+returns-else-arc-parents c = nothing_cleared _ _ c.if-arc-parents.false

@@ -6,5 +6,5 @@ use Rattle.capi.proofs.check.zilqodur_check_caps.Goals as goal
 
 pub returns : goal.returns
 returns c =
-    let it = stands_for encode_check decode_check c.encode.ensures c.check_caps.ensures
+    let it = stands_for encode_check decode_check c.from.ensures c.check_caps.ensures
     (list_kept outside_cap c.args.members c.args.caps.now) in record { result_value = it.0; value = it.1 }

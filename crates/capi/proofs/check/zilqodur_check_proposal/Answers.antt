@@ -6,5 +6,5 @@ use Rattle.capi.proofs.check.zilqodur_check_proposal.Goals as goal
 
 pub returns : goal.returns
 returns c =
-    let it = stands_for encode_check decode_check c.encode.ensures c.check_proposal.ensures
+    let it = stands_for encode_check decode_check c.from.ensures c.check_proposal.ensures
     (list_kept outside_share c.args.members c.args.proposal.now) in record { result_value = it.0; value = it.1 }

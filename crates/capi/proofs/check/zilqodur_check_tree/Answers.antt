@@ -5,7 +5,7 @@ use Rattle.capi.proofs.check.zilqodur_check_tree.Goals as goal
 
 pub returns : goal.returns
 returns c =
-    let it = stands_for encode_check decode_check c.encode.ensures c.check_tree.ensures (tree_kept _) in
+    let it = stands_for encode_check decode_check c.from.ensures c.check_tree.ensures (tree_kept _) in
     record {
       result_value = it.0;
       value = it.1;

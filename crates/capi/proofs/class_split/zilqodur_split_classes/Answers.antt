@@ -21,6 +21,6 @@ split w out {answer} is finds beside =
 
 pub returns : goal.returns
 returns c =
-    let found = c.split_classes-split.ensures in
-    let r = split _ _ c.encode.ensures found.answer_value found.totals_value in
+    let found = c.split_classes.ensures in
+    let r = split _ _ c.from.ensures found.answer_value found.totals_value in
     record { result_value = r.0; value = r.1; out_after = found.out_after }

@@ -4,7 +4,7 @@ use Rattle.capi.proofs.group.zilqodur_group_cost.Goals as goal
 
 pub returns : goal.returns
 returns c =
-    let it = stands_for encode_group decode_group c.encode.ensures c.group_cost.ensures (group_back _ _) in
+    let it = stands_for encode_group decode_group c.from.ensures c.group_cost.ensures (group_back _ _) in
     record {
       result_value = it.0;
       value = it.1;

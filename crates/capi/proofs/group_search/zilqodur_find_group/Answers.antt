@@ -24,6 +24,6 @@ searched t shares {answer} is finds beside =
 
 pub returns : goal.returns
 returns c =
-    let found = c.find_group-searched.ensures in
-    let it = searched _ _ c.encode.ensures found.answer_value found.group_value in
+    let found = c.find_group.ensures in
+    let it = searched _ _ c.from.ensures found.answer_value found.group_value in
     record { result_value = it.0; value = it.1.0; verdict_unless_refused = it.1.1 }

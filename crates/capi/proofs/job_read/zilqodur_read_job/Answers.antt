@@ -5,6 +5,6 @@ use Rattle.capi.proofs.job_read.zilqodur_read_job.Goals as goal
 
 pub returns : goal.returns
 returns c =
-    let r = stands_for encode_job decode_job c.encode.ensures
+    let r = stands_for encode_job decode_job c.from.ensures
     c.read.ensures.result_value (job_back _ _) in
     record { result_value = r.0; value = r.1; proposals_after = c.read.ensures.proposals_after }

@@ -6,5 +6,5 @@ use Rattle.capi.proofs.job_read.zilqodur_read_job2.Goals as goal
 pub returns : goal.returns
 returns c =
     let read = c.read.ensures in
-    let r = stands_for encode_job decode_job c.encode.ensures read.result_value (job2_back _ _) in
+    let r = stands_for encode_job decode_job c.from.ensures read.result_value (job2_back _ _) in
     record { result_value = r.0; value = r.1; floors_after = read.floors_after }

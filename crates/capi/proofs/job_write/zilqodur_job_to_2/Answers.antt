@@ -6,5 +6,5 @@ use Rattle.capi.proofs.job_write.zilqodur_job_to_2.Goals as goal
 pub returns : goal.returns
 returns c =
     let written = c.job_to_2.ensures in
-    let r = stands_for encode_job_length decode_job_length c.encode.ensures written.result_value (to2_back _ _) in
+    let r = stands_for encode_job_length decode_job_length c.from.ensures written.result_value (to2_back _ _) in
     record { result_value = r.0; value = r.1; out_after = written.out_after }

@@ -7,5 +7,5 @@ pub returns : goal.returns
 returns c =
     let written = c.write_job.ensures in
     let r =
-    stands_for encode_job_length decode_job_length c.encode.ensures written.result_value (job_written_back _ _) in
+    stands_for encode_job_length decode_job_length c.from.ensures written.result_value (job_written_back _ _) in
     record { result_value = r.0; value = r.1; out_after = written.out_after }

@@ -4,5 +4,5 @@ use Rattle.capi.proofs.members.zilqodur_count_members.Goals as goal
 
 pub returns : goal.returns
 returns c =
-    let it = stands_for encode_members decode_members c.encode.ensures c.count_members.ensures
+    let it = stands_for encode_members decode_members c.from.ensures c.count_members.ensures
     (member_count_back _) in record { result_value = it.0; value = it.1 }

@@ -4,6 +4,6 @@ use Rattle.capi.proofs.members.zilqodur_list_members.Goals as goal
 
 pub returns : goal.returns
 returns c =
-    let r = stands_for encode_members decode_members c.encode.ensures
+    let r = stands_for encode_members decode_members c.from.ensures
     c.list_members.ensures.result_value (members_back _ _) in
     record { result_value = r.0; value = r.1; out_after = c.list_members.ensures.out_after }

@@ -6,5 +6,5 @@ pub returns : goal.returns
 returns c =
     let stepped = c.next_parents.ensures in
     let r = stands_with (λ s. VerdictUnlessRefused s.verdict s.refusal) encode_step decode_step
-    c.encode.ensures stepped.result_value (step_back _) (step_verdict _) in
+    c.from.ensures stepped.result_value (step_back _) (step_verdict _) in
     record { result_value = r.0; value = r.1.0; verdict_unless_refused = r.1.1; parents_after = stepped.parents_after }

@@ -5,10 +5,10 @@ use Rattle.capi.proofs.quotes.zilqodur_ask.Goals as goal
 
 pub returns : goal.returns
 returns c =
-    let asked = c.ask-asked in
-    let event = c.event_by.ensures in
+    let asked = c.ask in
+    let event = c.from.ensures in
     let it =
-    stands_quoted asked.result.shares c.encode_asked.ensures (asked.ensures.answer_value ∙ ap (ask_answer _) event)
+    stands_quoted asked.result.shares c.from-2.ensures (asked.ensures.answer_value ∙ ap (ask_answer _) event)
     (asked_back _ _ _) (asked.ensures.shares_value ∙ ap (asked_shares _) event) in
     record {
       result_value = it.0;

@@ -5,7 +5,7 @@ use Rattle.capi.proofs.total.zilqodur_check_total.Goals as goal
 pub returns : goal.returns
 returns c =
     let it = stands_with (λ s. VerdictUnlessRefused s.verdict s.refusal) encode_total decode_total
-    c.encode.ensures c.check_total.ensures (total_back _) (total_verdict _ _) in
+    c.from.ensures c.check_total.ensures (total_back _) (total_verdict _ _) in
     record {
       result_value = it.0;
       value = it.1.0;

@@ -1,12 +1,7 @@
-use Prim.Native.Nat.{◌-◌, ◌≤◌}
 use mathlib.Core.Path.{◌≡◌}
-use lib.ListN.{length, drop}
+use lib.ListN.{drop}
 use Rattle.answers.specs.Checks.{range_check, outside_share}
 use Rattle.checks.proofs.proposal.check_shares.Given as goal
 
-abbrev pub invariant-loop-i : goal.invariant-loop-i
-invariant-loop-i l = (l.i ≤ length l.proposal)
-    × (range_check outside_share 0 l.proposal ≡ range_check outside_share l.i (drop l.i l.proposal))
-
-abbrev pub decreases-loop-i : goal.decreases-loop-i
-decreases-loop-i l = length l.proposal - l.i
+abbrev pub invariant-loop-j : goal.invariant-loop-j
+invariant-loop-j l = range_check outside_share 0 l.proposal ≡ range_check outside_share l.j (drop l.j l.proposal)

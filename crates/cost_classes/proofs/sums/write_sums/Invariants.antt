@@ -1,4 +1,4 @@
-use Prim.Native.Nat.{ℕ, suc, ◌-◌}
+use Prim.Native.Nat.{ℕ, suc}
 use mathlib.Core.List.{List}
 use lib.ListN.{length}
 use Rattle.basics.specs.Sum.{sum₀, smaller}
@@ -14,6 +14,3 @@ cut m classes costs k = smaller (sum₀ classes (λ c. of_arc (part m c costs) k
 
 abbrev pub invariant-loop-i : goal.invariant-loop-i
 invariant-loop-i l = Filling (length l.initial.out) (λ u. cut (length l.initial.out) l.classes l.costs (suc u)) l.out l.i
-
-abbrev pub decreases-loop-i : goal.decreases-loop-i
-decreases-loop-i l = length l.initial.out - l.i

@@ -1,32 +1,18 @@
-use Prim.Native.Nat.{ℕ, ◌+◌}
-use mathlib.Core.Path.{refl, sym, ap, ◌∙◌}
-use native.Mathlib.Omega.{arith}
-use lib.ListN.{get_or}
+use Rattle.std.proofs.Common.{◌≡◌, ◌<◌, ◌^◌, ℕ, List, refl, sym, ◌∙◌, arith, rules}
+use Rattle.std.specs.List.{sum}
+use Rattle.std.proofs.lemmas.List.Recursion.{is_sum_by}
 use Rattle.basics.specs.Sum.{total}
-use Rattle.basics.proofs.Totals.{total_next, total_parts}
 use Rattle.cost_classes.proofs.total.total_of.Goals as goal
 
-pub loop-j-init : goal.loop-j-init
+total_sum : (xs : List ℕ) → total (λ x. x) xs ≡ sum xs
 unfolding total
-loop-j-init c = (omega arith, refl)
+total_sum xs = is_sum_by (total (λ x. x)) (λ x. x) refl (λ x xs. refl) xs
 
-pub overflow_add-sum : goal.overflow_add-sum
-overflow_add-sum c =
-    let shares = c.args.shares.now in
-    let j = c.loop-j.j in
-    omega (
-      arith,
-      c.requires,
-      c.loop-j.invariant.1,
-      total_next (λ x. x) shares j c.loop-j-test.true,
-      total_parts (λ x. x) shares 0 (j + 1),
-    )
+pub sum-requires-clause-fits : goal.sum-requires-clause-fits
+sum-requires-clause-fits c =
+    let small : sum c.args.shares.now < 2 ^ 64 = omega (arith, c.requires, total_sum c.args.shares.now) in search rules
 
-pub loop-j-preserved : goal.loop-j-preserved
-loop-j-preserved c =
-    let shares = c.args.shares.now in
-    let at = c.loop-j in (
-      omega arith,
-      ap (λ (x : ℕ). x + get_or shares at.j 0) at.invariant.1
-          ∙ sym (total_next (λ x. x) shares at.j c.loop-j-test.true),
-    )
+pub returns : goal.returns
+returns c =
+    let added : c.sum.result ≡ sum c.args.shares.now = search rules in
+    added ∙ sym (total_sum c.args.shares.now)

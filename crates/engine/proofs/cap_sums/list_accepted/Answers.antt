@@ -2,7 +2,6 @@ use mathlib.Core.Path.{ap, ◌∙◌}
 use mathlib.Core.List.{[]}
 use Rattle.basics.specs.Sum.{list}
 use Rattle.game.specs.Network.{Network}
-use Rattle.answer_forms.specs.Answer.{value}
 use Rattle.answers.specs.Level.{cap_sum}
 use Rattle.level.proofs.CapsAccepted.{caps_accepted}
 use Rattle.tree.proofs.MembersListed.{written_listed, written_network, written_count}
@@ -26,6 +25,6 @@ returns c =
     let sums = c.write_cap_sums.ensures in
     let same = written_network _ _ c.requires.marked c.write_members.ensures [] in
     record {
-      result_value = ap value sums.value;
+      value = sums.value;
       out_after = sums.out_after ∙ ap (λ (n : Network). list n.arcs (cap_sum n c.args.caps.now)) same;
     }

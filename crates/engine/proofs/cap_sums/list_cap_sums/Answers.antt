@@ -12,7 +12,6 @@ use Rattle.answers.specs.CapSums.{running_sum, cap_sums_answer, cap_sums_list}
 use Rattle.answers.proofs.Accepted.{tree_accepted}
 use Rattle.answers.proofs.CoreLaws.{members_end}
 use Rattle.answers.proofs.RunningSums.{running_list}
-use Rattle.answer_forms.proofs.Opened.{opened, turned_away}
 use Rattle.tree.proofs.TreeAccepted.{accepted_sound, accepted_marked}
 use Rattle.engine.proofs.cap_sums.list_cap_sums.Goals as goal
 
@@ -24,24 +23,17 @@ unfolding sum_below
 sums_running t ok caps =
     let a = tree_accepted t ok in sym (running_list (network t) a.rooted caps (members_end t a))
 
-pub returns-in_default : goal.returns-in_default
-unfolding cap_sums_answer cap_sums_list
-returns-in_default c =
-    let away = turned_away c.check_tree-tree.ensures c.in_default.is
-    c.refusal_of.ensures in
-    record { result_value = rw away; out_after = rw away }
-
 pub list_in_tree-requires : goal.list_in_tree-requires
 list_in_tree-requires c =
     let tree : Tree = tree_of c.args.parents.now c.args.costs.now c.args.marks.now in
-    let accepted_tree : tree_check (tree) ≡ accepted = opened c.check_tree-tree.ensures c.in-Accepted.is in
+    let accepted_tree : tree_check (tree) ≡ accepted = sym c.in_ok-check_tree.ensures in
     let ok = accepted_tree in record { sound = accepted_sound _ ok; marked = accepted_marked _ ok }
 
 pub returns : goal.returns
 unfolding cap_sums_answer cap_sums_list
 returns c =
     let tree : Tree = tree_of c.args.parents.now c.args.costs.now c.args.marks.now in
-    let accepted_tree : tree_check (tree) ≡ accepted = opened c.check_tree-tree.ensures c.in-Accepted.is in
+    let accepted_tree : tree_check (tree) ≡ accepted = sym c.in_ok-check_tree.ensures in
     let ok = accepted_tree in
     let inner = c.list_in_tree.ensures in
     let same = sums_running (tree) ok c.args.caps.now in

@@ -1,31 +1,24 @@
-use mathlib.Core.Path.{◌≡◌}
+use mathlib.Core.Path.{sym, ◌≡◌}
 use Rattle.game.specs.Tree.{tree_of, Tree}
 use Rattle.answer_forms.specs.Answer.{accepted}
 use Rattle.answers.specs.Checks.{tree_check}
 use Rattle.answers.specs.GroupCost.{group_cost_answer}
-use Rattle.answer_forms.proofs.Opened.{opened, turned_away}
 use Rattle.tree.proofs.LocalCosts.{counted_part}
 use Rattle.tree.proofs.TreeAccepted.{accepted_sound, counted_lent, accepted_lists}
 use Rattle.engine.proofs.group.group_cost.Goals as goal
-
-pub returns-in_default : goal.returns-in_default
-unfolding group_cost_answer
-returns-in_default c =
-    rw (turned_away c.check_tree-tree.ensures c.in_default.is
-    c.refusal_of.ensures)
 
 pub slice_bounds-counted-end : goal.slice_bounds-counted-end
 slice_bounds-counted-end c =
     let tree : Tree = let given = c.args in
     tree_of given.parents.now given.costs.now given.marks.now in
-    let accepted_tree : tree_check (tree) ≡ accepted = opened c.check_tree-tree.ensures c.in-Accepted.is in
+    let accepted_tree : tree_check (tree) ≡ accepted = sym c.in_ok-check_tree.ensures in
     (accepted_sound (tree) (accepted_tree)).few
 
 pub write_counted-requires : goal.write_counted-requires
 write_counted-requires c =
     let tree : Tree = let given = c.args in
     tree_of given.parents.now given.costs.now given.marks.now in
-    let accepted_tree : tree_check (tree) ≡ accepted = opened c.check_tree-tree.ensures c.in-Accepted.is in
+    let accepted_tree : tree_check (tree) ≡ accepted = sym c.in_ok-check_tree.ensures in
     let it = counted_lent _ (accepted_tree) in
     record { sound = it.0; costed = it.1.0; marked = it.1.1.0; out_len = it.1.1.1 }
 
@@ -33,7 +26,7 @@ pub cost_in_tree-requires : goal.cost_in_tree-requires
 cost_in_tree-requires c =
     let tree : Tree = let given = c.args in
     tree_of given.parents.now given.costs.now given.marks.now in
-    let accepted_tree : tree_check (tree) ≡ accepted = opened c.check_tree-tree.ensures c.in-Accepted.is in
+    let accepted_tree : tree_check (tree) ≡ accepted = sym c.in_ok-check_tree.ensures in
     let it = accepted_lists _ (accepted_tree) c.write_counted.ensures _ in
     record { sound = it.0; costed = it.1.0; marked = it.1.1 }
 
@@ -42,6 +35,6 @@ unfolding group_cost_answer
 returns c =
     let tree : Tree = let given = c.args in
     tree_of given.parents.now given.costs.now given.marks.now in
-    let accepted_tree : tree_check (tree) ≡ accepted = opened c.check_tree-tree.ensures c.in-Accepted.is in
+    let accepted_tree : tree_check (tree) ≡ accepted = sym c.in_ok-check_tree.ensures in
     let part = counted_part (tree) c.write_counted.ensures in
     rw (accepted_tree) (rw part at c.cost_in_tree.ensures)

@@ -1,5 +1,5 @@
 use Prim.Native.Nat.{ℕ}
-use mathlib.Core.Path.{◌≡◌, refl}
+use mathlib.Core.Path.{sym, ◌≡◌, refl}
 use mathlib.Core.List.{List}
 use lib.IntN.{ℤ}
 use Rattle.game.specs.Tree.{Tree, tree_of, network}
@@ -8,7 +8,6 @@ use Rattle.game.specs.Search.{is_in, named}
 use Rattle.answer_forms.specs.Answer.{Answer, accepted, value}
 use Rattle.answers.specs.Checks.{tree_check}
 use Rattle.answers.specs.Audit.{Verdict, audit_check, search_verdict, search_answer, search_words, words_beside}
-use Rattle.answer_forms.proofs.Opened.{opened, turned_away}
 use Rattle.tree.proofs.LocalCosts.{counted_part}
 use Rattle.tree.proofs.TreeAccepted.{accepted_sound, counted_lent, accepted_lists}
 use Rattle.engine.proofs.ProposalAccepted.{tree_taken, shares_taken}
@@ -23,19 +22,11 @@ answered : (t : Tree) (proposed : List ℤ) {a : Answer Verdict} {group : List �
 unfolding search_answer search_words
 answered t proposed taken is beside = rw (taken, ← is) (refl, beside)
 
-pub returns-in_default : goal.returns-in_default
-unfolding search_answer search_words
-returns-in_default c =
-    let away = turned_away c.check_proposed-checked.ensures c.in_default.is
-    c.refusal_of.ensures in
-    let given = c.without_group.ensures in
-    record { answer_value = rw (given.answer_value, away); group_value = rw away given.group_value }
-
 pub slice_bounds-counted-end : goal.slice_bounds-counted-end
 slice_bounds-counted-end c =
     let tree : Tree = let s = c.args in tree_of s.parents.now s.costs.now s.marks.now in
     let shares : List ℤ = c.args.proposal.now in
-    let ok : audit_check (tree) (shares) ≡ accepted = opened c.check_proposed-checked.ensures c.in-Accepted.is in
+    let ok : audit_check (tree) (shares) ≡ accepted = sym c.in-Ok.ensures in
     let tree_ok : tree_check (tree) ≡ accepted = tree_taken (tree) (shares) (ok) in
     (accepted_sound (tree) (tree_ok)).few
 
@@ -43,7 +34,7 @@ pub write_counted-requires : goal.write_counted-requires
 write_counted-requires c =
     let tree : Tree = let s = c.args in tree_of s.parents.now s.costs.now s.marks.now in
     let shares : List ℤ = c.args.proposal.now in
-    let ok : audit_check (tree) (shares) ≡ accepted = opened c.check_proposed-checked.ensures c.in-Accepted.is in
+    let ok : audit_check (tree) (shares) ≡ accepted = sym c.in-Ok.ensures in
     let tree_ok : tree_check (tree) ≡ accepted = tree_taken (tree) (shares) (ok) in
     let it = counted_lent _ (tree_ok) in record { sound = it.0; costed = it.1.0; marked = it.1.1.0; out_len = it.1.1.1 }
 
@@ -51,7 +42,7 @@ pub search_in_tree-requires : goal.search_in_tree-requires
 search_in_tree-requires c =
     let tree : Tree = let s = c.args in tree_of s.parents.now s.costs.now s.marks.now in
     let shares : List ℤ = c.args.proposal.now in
-    let ok : audit_check (tree) (shares) ≡ accepted = opened c.check_proposed-checked.ensures c.in-Accepted.is in
+    let ok : audit_check (tree) (shares) ≡ accepted = sym c.in-Ok.ensures in
     let tree_ok : tree_check (tree) ≡ accepted = tree_taken (tree) (shares) (ok) in
     let lists = accepted_lists _ (tree_ok) c.write_counted.ensures _ in
     record {
@@ -61,11 +52,11 @@ search_in_tree-requires c =
       proposal_value = shares_taken (tree) (shares) (ok);
     }
 
-pub returns : goal.returns
-returns c =
+pub returns-in-Ok : goal.returns-in-Ok
+returns-in-Ok c =
     let tree : Tree = let s = c.args in tree_of s.parents.now s.costs.now s.marks.now in
     let shares : List ℤ = c.args.proposal.now in
-    let ok : audit_check (tree) (shares) ≡ accepted = opened c.check_proposed-checked.ensures c.in-Accepted.is in
+    let ok : audit_check (tree) (shares) ≡ accepted = sym c.in-Ok.ensures in
     let part = counted_part (tree) c.write_counted.ensures in
     let inner = c.search_in_tree.ensures in
     let it = answered (tree) (shares) (ok) (rw part at inner.answer_value) (rw part at inner.group_value) in

@@ -9,9 +9,7 @@ use Rattle.game.specs.Network.{member_count}
 use Rattle.game.specs.Tree.{Tree, tree_of, network, network_of}
 use Rattle.game.proofs.Branched.{Branched}
 use Rattle.answer_forms.specs.Answer.{Check, accepted, fault}
-use Rattle.answer_forms.specs.Checked.{check_of}
 use Rattle.answer_forms.proofs.Composed.{no_fault}
-use Rattle.answer_forms.proofs.Opened.{opened}
 use Rattle.answers.specs.Checks.{length_check}
 use Rattle.answers.proofs.Accepted.{length_accepted}
 use Rattle.tree.proofs.MembersListed.{marks_count}
@@ -27,13 +25,13 @@ split_accepted-requires c =
     let several : ℕ → Check = λ k. fault (ltb k 2) 26 c.args.arc in
     let counted : c.count_members-users.result ≡ members =
     c.count_members-users.ensures ∙ marks_count _ _ c.requires.marked in
-    let users_found : check_of c.check_branch_users-several.result ≡ several (members) =
-    c.check_branch_users-several.ensures ∙ ap (several) (counted) in
-    let several_accepted : several (members) ≡ accepted = opened (users_found) c.in-Accepted.is in
+    let users_found : accepted ≡ several (members) =
+    c.in_ok-check_branch_users.ensures ∙ ap (several) (counted) in
+    let several_accepted : several (members) ≡ accepted = sym (users_found) in
     let output : ℕ → Check = λ k. length_check k (length c.args.out.now) in
-    let output_found : check_of c.check_output-output.result ≡ output (members) =
-    c.check_output-output.ensures ∙ ap (output) (counted) in
-    let output_accepted : output (members) ≡ accepted = opened (output_found) c.in-Accepted-output.is in
+    let output_found : accepted ≡ output (members) =
+    c.in_ok-check_output.ensures ∙ ap (output) (counted) in
+    let output_accepted : output (members) ≡ accepted = sym (output_found) in
     let are = c.write_counted.ensures in
     let lists = sound_lists (tree) c.requires.sound c.requires.costed c.requires.marked are _ in
     let whole = subst (BranchedAt) (sym (counted_part (tree) are _)) c.requires.branched in

@@ -7,9 +7,8 @@ use Rattle.game.specs.Tree.{Tree, tree_of, network}
 use Rattle.game.proofs.Branched.{Branched}
 use Rattle.answer_forms.specs.Answer.{accepted}
 use Rattle.answer_forms.proofs.Composed.{no_fault}
-use Rattle.answer_forms.proofs.Opened.{opened, turned_away}
 use Rattle.answers.specs.Checks.{tree_check}
-use Rattle.answers.specs.Margin.{leaves_source, margin_answer, margin_list}
+use Rattle.answers.specs.Margin.{leaves_source}
 use Rattle.answers.proofs.BranchLaws.{leaves_accepted, branch_whole}
 use Rattle.basics.proofs.Lists.{zeros_length}
 use Rattle.limits.specs.Limits.{most_arcs}
@@ -18,36 +17,19 @@ use Rattle.tree.proofs.TreeAccepted.{accepted_sound, accepted_costed, accepted_m
 use Rattle.engine.proofs.BranchSplit.{branch_marked, marks_part, branch_answer, branch_list}
 use Rattle.engine.proofs.margin_split.split_margin.Goals as goal
 
-pub returns-in_default : goal.returns-in_default
-unfolding margin_answer margin_list
-returns-in_default c =
-    let away = turned_away c.check_tree-tree.ensures c.in_default.is
-    c.refusal_of.ensures in
-    record { result_value = rw away; out_after = rw away }
-
-pub returns-in_default-leaves : goal.returns-in_default-leaves
-unfolding margin_answer margin_list
-returns-in_default-leaves c =
-    let tree : Tree = tree_of c.args.parents.now c.args.costs.now c.args.marks.now in
-    let accepted_tree : tree_check (tree) ≡ accepted = opened c.check_tree-tree.ensures c.in-Accepted.is in
-    let ok = accepted_tree in
-    let away = turned_away c.check_branch_arc-leaves.ensures c.in_default-leaves.is
-    c.refusal_of-in_default-leaves.ensures in
-    record { result_value = rw (ok, away); out_after = rw (ok, away) }
-
 pub slice_bounds-branch-end : goal.slice_bounds-branch-end
 slice_bounds-branch-end c =
     let tree : Tree = tree_of c.args.parents.now c.args.costs.now c.args.marks.now in
-    let accepted_tree : tree_check (tree) ≡ accepted = opened c.check_tree-tree.ensures c.in-Accepted.is in
+    let accepted_tree : tree_check (tree) ≡ accepted = sym c.in_ok-check_tree.ensures in
     (accepted_sound _ (accepted_tree)).few
 
 pub write_branch_marks-requires : goal.write_branch_marks-requires
 write_branch_marks-requires c =
     let tree : Tree = tree_of c.args.parents.now c.args.costs.now c.args.marks.now in
-    let accepted_tree : tree_check (tree) ≡ accepted = opened c.check_tree-tree.ensures c.in-Accepted.is in
+    let accepted_tree : tree_check (tree) ≡ accepted = sym c.in_ok-check_tree.ensures in
     let leaves : leaves_source c.args.parents.now c.args.arc ≡ true =
     let from = leaves_source c.args.parents.now c.args.arc in
-    let found = opened c.check_branch_arc-leaves.ensures c.in-Accepted-leaves.is in
+    let found = sym c.in_ok-check_branch_arc.ensures in
     not-false from (no_fault (not from) 25 c.args.arc found) in
     let ok = accepted_tree in
     let sound = accepted_sound _ ok in
@@ -61,12 +43,12 @@ write_branch_marks-requires c =
 pub split_branch-requires : goal.split_branch-requires
 split_branch-requires c =
     let tree : Tree = tree_of c.args.parents.now c.args.costs.now c.args.marks.now in
-    let accepted_tree : tree_check (tree) ≡ accepted = opened c.check_tree-tree.ensures c.in-Accepted.is in
+    let accepted_tree : tree_check (tree) ≡ accepted = sym c.in_ok-check_tree.ensures in
     let BranchedAt : List ℕ → Type 0 =
     λ marks. Branched (network (tree_of c.args.parents.now c.args.costs.now marks)) c.args.arc in
     let leaves : leaves_source c.args.parents.now c.args.arc ≡ true =
     let from = leaves_source c.args.parents.now c.args.arc in
-    let found = opened c.check_branch_arc-leaves.ensures c.in-Accepted-leaves.is in
+    let found = sym c.in_ok-check_branch_arc.ensures in
     not-false from (no_fault (not from) 25 c.args.arc found) in
     let ok = accepted_tree in
     let same = sym (marks_part (tree) ok c.args.arc c.write_branch_marks.ensures _) in
@@ -80,10 +62,10 @@ split_branch-requires c =
 pub returns : goal.returns
 returns c =
     let tree : Tree = tree_of c.args.parents.now c.args.costs.now c.args.marks.now in
-    let accepted_tree : tree_check (tree) ≡ accepted = opened c.check_tree-tree.ensures c.in-Accepted.is in
+    let accepted_tree : tree_check (tree) ≡ accepted = sym c.in_ok-check_tree.ensures in
     let leaves : leaves_source c.args.parents.now c.args.arc ≡ true =
     let from = leaves_source c.args.parents.now c.args.arc in
-    let found = opened c.check_branch_arc-leaves.ensures c.in-Accepted-leaves.is in
+    let found = sym c.in_ok-check_branch_arc.ensures in
     not-false from (no_fault (not from) 25 c.args.arc found) in
     let ok = accepted_tree in
     let same = marks_part (tree) ok c.args.arc c.write_branch_marks.ensures in

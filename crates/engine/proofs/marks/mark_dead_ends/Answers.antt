@@ -1,4 +1,4 @@
-use mathlib.Core.Path.{◌≡◌, ap, ◌∙◌}
+use mathlib.Core.Path.{sym, ◌≡◌, ap, ◌∙◌}
 use mathlib.Core.List.{List}
 use Prim.Native.Nat.{ℕ}
 use lib.ListN.{length}
@@ -10,43 +10,25 @@ use Rattle.answers.specs.DeadEnds.{dead_ends_answer, dead_ends_list}
 use Rattle.game.proofs.DeadEnds.{dead_ends_length}
 use Rattle.answers.proofs.Accepted.{length_accepted}
 use Rattle.answers.proofs.DeadEnds.{plain_few}
-use Rattle.answer_forms.proofs.Opened.{opened, turned_away}
 use Rattle.engine.proofs.marks.mark_dead_ends.Goals as goal
-
-pub returns-in_default : goal.returns-in_default
-unfolding dead_ends_answer dead_ends_list
-returns-in_default c =
-    let away = turned_away c.check_plain-lists.ensures c.in_default.is
-    c.refusal_of.ensures in
-    record { result_value = rw away; out_after = rw away }
-
-pub returns-in_default-output : goal.returns-in_default-output
-unfolding dead_ends_answer dead_ends_list
-returns-in_default-output c =
-    let accepted_lists : plain_check c.args.parents.now c.args.costs.now ≡ accepted =
-    opened c.check_plain-lists.ensures c.in-Accepted.is in
-    let lists = accepted_lists in
-    let away = turned_away c.check_output-output.ensures c.in_default-output.is
-    c.refusal_of-in_default-output.ensures in
-    record { result_value = rw (lists, away); out_after = rw (lists, away) }
 
 pub write_dead_ends-requires : goal.write_dead_ends-requires
 write_dead_ends-requires c =
     let accepted_lists : plain_check c.args.parents.now c.args.costs.now ≡ accepted =
-    opened c.check_plain-lists.ensures c.in-Accepted.is in
+    sym c.in_ok-check_plain.ensures in
     let lists = accepted_lists in
     record {
       parents_len_bound = plain_few _ _ lists;
-      out_len = length_accepted _ _ (opened c.check_output-output.ensures c.in-Accepted-output.is);
+      out_len = length_accepted _ _ (sym c.in_ok-check_output.ensures);
     }
 
 pub returns : goal.returns
 unfolding dead_ends_answer dead_ends_list
 returns c =
     let accepted_lists : plain_check c.args.parents.now c.args.costs.now ≡ accepted =
-    opened c.check_plain-lists.ensures c.in-Accepted.is in
+    sym c.in_ok-check_plain.ensures in
     let lists = accepted_lists in
-    let out = opened c.check_output-output.ensures c.in-Accepted-output.is in
+    let out = sym c.in_ok-check_output.ensures in
     let ends = c.write_dead_ends.ensures in
     let parents = c.args.parents.now in record {
       result_value = rw (lists, out)

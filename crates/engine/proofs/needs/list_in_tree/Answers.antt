@@ -1,9 +1,8 @@
-use mathlib.Core.Path.{◌≡◌, ◌∙◌}
+use mathlib.Core.Path.{sym, ◌≡◌, ◌∙◌}
 use lib.ListN.{length}
 use Rattle.game.specs.Network.{whole_cost, sum_below}
 use Rattle.answer_forms.specs.Answer.{accepted}
 use Rattle.answers.specs.Checks.{length_check}
-use Rattle.answer_forms.proofs.Opened.{opened}
 use Rattle.tree.proofs.MembersListed.{marks_count}
 use Rattle.engine.proofs.needs.list_in_tree.Goals as goal
 
@@ -11,7 +10,7 @@ pub returns : goal.returns
 unfolding whole_cost sum_below
 returns c =
     let accepted_output : length_check (length c.args.parents.now) (length c.args.out.now) ≡ accepted =
-    opened c.check_output-output.ensures c.in-Accepted.is in
+    sym c.in_ok-check_output.ensures in
     let list = accepted_output in
     let count = c.count_members-members.ensures
     ∙ marks_count _ _ c.requires.marked in

@@ -5,7 +5,6 @@ use mathlib.Core.List.{List}
 use mathlib.Core.Option.{Option, none, some, Option-elim}
 use native.Mathlib.Omega.{arith}
 use Rattle.answer_forms.specs.Answer.{accepted, value}
-use Rattle.answer_forms.proofs.Opened.{opened, turned_away}
 use Rattle.answers.specs.Checks.{small_check}
 use Rattle.answers.specs.ParentLists.{next, end, step_answer, step_list}
 use Rattle.answers.proofs.ParentListsLaws.{small_few, small_rooted}
@@ -18,17 +17,10 @@ unfolding Option-elim
 said none e = ap (λ (b : Bool). cond b next end) e
 said (some l) e = ap (λ (b : Bool). cond b next end) e
 
-pub returns-in_default : goal.returns-in_default
-unfolding step_answer step_list
-returns-in_default c =
-    let away = turned_away c.check_small-list.ensures c.in_default.is
-    c.refusal_of.ensures in
-    record { result_value = rw away; parents_after = rw away }
-
 pub step-requires : goal.step-requires
 step-requires c =
     let accepted_list : small_check c.args.parents.now ≡ accepted =
-    opened c.check_small-list.ensures c.in-Accepted.is in
+    sym c.in_ok-check_small.ensures in
     let ok = accepted_list in
     record { few = omega (arith, small_few _ ok); rising = small_rooted _ ok }
 
@@ -36,7 +28,7 @@ pub returns-then-step : goal.returns-then-step
 unfolding step_answer step_list
 returns-then-step c =
     let accepted_list : small_check c.args.parents.now ≡ accepted =
-    opened c.check_small-list.ensures c.in-Accepted.is in
+    sym c.in_ok-check_small.ensures in
     let ok = accepted_list in
     let is-next = sym (ap (λ (b : Bool). cond b next end) c.if-step.true) ∙ said _ c.step.ensures.value in
     record { result_value = rw ok (ap value is-next); parents_after = rw ok c.step.ensures.parents_after }
@@ -45,7 +37,7 @@ pub returns-else-step : goal.returns-else-step
 unfolding step_answer step_list
 returns-else-step c =
     let accepted_list : small_check c.args.parents.now ≡ accepted =
-    opened c.check_small-list.ensures c.in-Accepted.is in
+    sym c.in_ok-check_small.ensures in
     let ok = accepted_list in
     let is-end = sym (ap (λ (b : Bool). cond b next end) c.if-step.false) ∙ said _ c.step.ensures.value in
     record { result_value = rw ok (ap value is-end); parents_after = rw ok c.step.ensures.parents_after }

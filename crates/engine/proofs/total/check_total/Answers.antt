@@ -1,5 +1,5 @@
 use Prim.Native.Nat.{ℕ, ◌+◌, ◌≤◌}
-use mathlib.Core.Path.{◌≡◌, ap, ◌∙◌}
+use mathlib.Core.Path.{sym, ◌≡◌, ap, ◌∙◌}
 use mathlib.Core.List.{List}
 use lib.IntN.{ℤ, sub_ℕ}
 use native.Mathlib.Omega.{arith}
@@ -10,7 +10,6 @@ use Rattle.game.specs.Tree.{Tree, tree_of, network}
 use Rattle.answer_forms.specs.Answer.{accepted, value}
 use Rattle.answers.specs.Checks.{tree_check}
 use Rattle.answers.specs.Audit.{audit_check, total_answer}
-use Rattle.answer_forms.proofs.Opened.{opened, turned_away}
 use Rattle.answers.proofs.Accepted.{tree_accepted}
 use Rattle.answers.proofs.Limits.{whole_bound}
 use Rattle.tree.proofs.TreeAccepted.{accepted_sound, counted_lent}
@@ -19,18 +18,11 @@ use Rattle.engine.proofs.ProposalAccepted.{tree_taken, one_a_member, shares_lent
 use Rattle.engine.proofs.Difference.{difference_is}
 use Rattle.engine.proofs.total.check_total.Goals as goal
 
-pub returns-in_default : goal.returns-in_default
-unfolding total_answer
-returns-in_default c =
-    rw
-    (turned_away c.check_proposed-checked.ensures c.in_default.is
-    c.refusal_of.ensures)
-
 pub slice_bounds-counted-end : goal.slice_bounds-counted-end
 slice_bounds-counted-end c =
     let tree : Tree = let s = c.args in tree_of s.parents.now s.costs.now s.marks.now in
     let shares : List ℤ = c.args.proposal.now in
-    let ok : audit_check (tree) (shares) ≡ accepted = opened c.check_proposed-checked.ensures c.in-Accepted.is in
+    let ok : audit_check (tree) (shares) ≡ accepted = sym c.in_ok-check_proposed.ensures in
     let tree_ok : tree_check (tree) ≡ accepted = tree_taken (tree) (shares) (ok) in
     (accepted_sound (tree) (tree_ok)).few
 
@@ -38,7 +30,7 @@ pub write_counted-requires : goal.write_counted-requires
 write_counted-requires c =
     let tree : Tree = let s = c.args in tree_of s.parents.now s.costs.now s.marks.now in
     let shares : List ℤ = c.args.proposal.now in
-    let ok : audit_check (tree) (shares) ≡ accepted = opened c.check_proposed-checked.ensures c.in-Accepted.is in
+    let ok : audit_check (tree) (shares) ≡ accepted = sym c.in_ok-check_proposed.ensures in
     let tree_ok : tree_check (tree) ≡ accepted = tree_taken (tree) (shares) (ok) in
     let it = counted_lent _ (tree_ok) in record { sound = it.0; costed = it.1.0; marked = it.1.1.0; out_len = it.1.1.1 }
 
@@ -46,7 +38,7 @@ pub parts_of-parts-requires : goal.parts_of-parts-requires
 parts_of-parts-requires c =
     let tree : Tree = let s = c.args in tree_of s.parents.now s.costs.now s.marks.now in
     let shares : List ℤ = c.args.proposal.now in
-    let ok : audit_check (tree) (shares) ≡ accepted = opened c.check_proposed-checked.ensures c.in-Accepted.is in
+    let ok : audit_check (tree) (shares) ≡ accepted = sym c.in_ok-check_proposed.ensures in
     let it = shares_lent (tree) (shares) (ok) in record { proposal_value = it.0; proposal_len_bound = it.1 }
 
 pub overflow_add-owed : goal.overflow_add-owed
@@ -55,7 +47,7 @@ overflow_add-owed c =
     let whole : c.whole_cost.result ≡ whole_cost (network (tree)) =
     c.whole_cost.ensures ∙ counted_whole (tree) c.write_counted.ensures _ in
     let shares : List ℤ = c.args.proposal.now in
-    let ok : audit_check (tree) (shares) ≡ accepted = opened c.check_proposed-checked.ensures c.in-Accepted.is in
+    let ok : audit_check (tree) (shares) ≡ accepted = sym c.in_ok-check_proposed.ensures in
     let tree_ok : tree_check (tree) ≡ accepted = tree_taken (tree) (shares) (ok) in
     let owed_bound : c.parts_of-parts.result.minus + c.whole_cost.result ≤ 3000000000000000 = omega (
       arith,
@@ -71,7 +63,7 @@ less-requires c =
     let whole : c.whole_cost.result ≡ whole_cost (network (tree)) =
     c.whole_cost.ensures ∙ counted_whole (tree) c.write_counted.ensures _ in
     let shares : List ℤ = c.args.proposal.now in
-    let ok : audit_check (tree) (shares) ≡ accepted = opened c.check_proposed-checked.ensures c.in-Accepted.is in
+    let ok : audit_check (tree) (shares) ≡ accepted = sym c.in_ok-check_proposed.ensures in
     let tree_ok : tree_check (tree) ≡ accepted = tree_taken (tree) (shares) (ok) in
     let owed_bound : c.parts_of-parts.result.minus + c.whole_cost.result ≤ 3000000000000000 = omega (
       arith,
@@ -90,7 +82,7 @@ returns c =
     let shares : List ℤ = c.args.proposal.now in
     let whole : c.whole_cost.result ≡ whole_cost (network (tree)) =
     c.whole_cost.ensures ∙ counted_whole (tree) c.write_counted.ensures _ in
-    let ok : audit_check (tree) (shares) ≡ accepted = opened c.check_proposed-checked.ensures c.in-Accepted.is in
+    let ok : audit_check (tree) (shares) ≡ accepted = sym c.in_ok-check_proposed.ensures in
     let t = tree in
     let proposed = shares in
     let parts = c.parts_of-parts in

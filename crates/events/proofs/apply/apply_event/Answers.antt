@@ -1,54 +1,85 @@
-use mathlib.Core.Path.{◌≡◌, ap, ◌∙◌}
-use borrow.Author.Tests.{lt-ltb, le-ltb}
-use lib.Dec.{ltb}
-use mathlib.Core.Bool.{false}
+use Prim.Native.Nat.{◌≤◌}
+use mathlib.Core.Path.{refl, sym, ◌∙◌}
+use native.Mathlib.Omega.{arith}
+use borrow.Author.Tests.{lt-ltb}
 use Rattle.limits.specs.Limits.{most_arcs}
-use Rattle.answers.specs.Members.{member_count_answer}
-use Rattle.answers.specs.States.{State, tree_in, state_check}
-use Rattle.engine.specs.Outcomes.{member_count_of}
-use Rattle.events.specs.Outcomes.{state_of}
-use Rattle.events.proofs.Arrays.{part_tree}
-use Rattle.events.proofs.Counted.{counted, not_counted}
+use Rattle.std.proofs.lemmas.Result.{err_from_is_err_and}
+use Rattle.answers.specs.States.{tree_in, state_check}
+use Rattle.answers.specs.Events.{event_check}
+use Rattle.answers.proofs.Limits.{tree_limits}
+use Rattle.events.specs.Outcomes.{state_of, event_of}
+use Rattle.events.proofs.Arrays.{part_tree, state_check_few}
+use Rattle.events.proofs.Made.{counted, not_counted}
+use Rattle.events.proofs.Carried.{fit_is, reached_members, reached_check, reached_count, tree_reached, members_few}
 use Rattle.events.proofs.apply.apply_event.Goals as goal
 
 -- more arcs than entries
 pub returns-then-m-gt-MOST_ARCS : goal.returns-then-m-gt-MOST_ARCS
 unfolding state_check
 returns-then-m-gt-MOST_ARCS c =
-    let held : State = state_of c.args.state in
-    let many = lt-ltb most_arcs (held).arcs c.if-m-gt-MOST_ARCS.true in
-    record { answer_value = rw many; state_value = rw many }
+    let many = lt-ltb most_arcs c.args.state.now.arcs c.if-m-gt-MOST_ARCS.true in
+    record { answer_value = rw (many, c.at.ensures.reason_value, c.at.ensures.place_value) refl; state_value = rw many refl }
 
-pub returns-in_default : goal.returns-in_default
-unfolding member_count_answer state_check
-returns-in_default c =
-    let held : State = state_of c.args.state in
-    let state : State = held in
-    let answers : member_count_of c.count_members-counted.result ≡ member_count_answer (tree_in (state)) =
-    c.count_members-counted.ensures ∙ ap member_count_answer (part_tree (state)) in
-    let few : ltb most_arcs (state).arcs ≡ false = le-ltb most_arcs (state).arcs c.if-m-gt-MOST_ARCS.false in
-    let away = not_counted (tree_in (state)) (answers) c.in_default.is in
-    record { answer_value = answers ∙ rw (few, away); state_value = rw (few, away) }
+pub returns-in_err-members : goal.returns-in_err-members
+returns-in_err-members c =
+    let held = state_of c.args.state.now in
+    let away = not_counted (tree_in held) (rw (part_tree held) at c.in_err-members.ensures) in
+    let exit = c.from_residual in
+    let passed_on = err_from_is_err_and exit.result exit.ensures.1 in
+    let few = state_check_few held c.if-m-gt-MOST_ARCS.false in
+    record { answer_value = rw (passed_on.1, passed_on.2, few, away) refl; state_value = rw (few, away) refl }
 
-pub apply_in_tree-requires : goal.apply_in_tree-requires
-apply_in_tree-requires c =
-    let held : State = state_of c.args.state in
-    let state : State = held in
-    let answers : member_count_of c.count_members-counted.result ≡ member_count_answer (tree_in (state)) =
-    c.count_members-counted.ensures ∙ ap member_count_answer (part_tree (state)) in
-    let is = counted (tree_in (state)) (answers) c.in-Members.is in
-    record { arcs_le_most_arcs = c.if-m-gt-MOST_ARCS.false; state_value = is.0; members_value = is.1 }
+pub returns-in_err-check : goal.returns-in_err-check
+unfolding event_check
+returns-in_err-check c =
+    let held = state_of c.args.state.now in
+    let ok = (counted (tree_in held) (rw (part_tree held) at c.in_ok-members.ensures)).0 in
+    let found = c.in_err-check.ensures ∙ fit_is held (event_of c.args.event) ok in
+    let exit = c.from_residual-in_err-check in
+    let passed_on = err_from_is_err_and exit.result exit.ensures.1 in
+    let few = state_check_few held c.if-m-gt-MOST_ARCS.false in
+    record { answer_value = rw (passed_on.1, passed_on.2, few, ok, ← found) refl; state_value = rw (few, ok, ← found) refl }
+
+pub members_after-requires : goal.members_after-requires
+members_after-requires c =
+    let held = state_of c.args.state.now in
+    let is = counted (tree_in held) (rw (part_tree held) at c.in_ok-members.ensures) in
+    let limits = tree_limits (tree_in held) is.0 in
+    record {
+      members_le_most_arcs = omega (arith, limits.members, is.1);
+      members_nonzero = omega (arith, limits.someone, is.1);
+    }
+
+pub carry_out-requires : goal.carry_out-requires
+carry_out-requires c =
+    let held = state_of c.args.state.now in
+    let next = state_of c.changed-next.result in
+    let event = event_of c.args.event in
+    let is = counted (tree_in held) (rw (part_tree held) at c.in_ok-members.ensures) in
+    let fits = sym (c.in_ok-check.ensures ∙ fit_is held event is.0) in
+    let arcs = c.changed-next.ensures.arcs_value in
+    let few : next.arcs ≤ most_arcs = omega (arith, arcs, c.if-m-gt-MOST_ARCS.false) in
+    let members = c.members_after.ensures
+    ∙ reached_members held next event is.0 fits arcs c.changed-next.ensures.marks_value is.1 in
+    record {
+      arcs_le_most_arcs = few;
+      members_value = members;
+      members_le_most_arcs = rw members (members_few next few);
+    }
 
 pub returns : goal.returns
-unfolding state_check
 returns c =
-    let held : State = state_of c.args.state in
-    let state : State = held in
-    let answers : member_count_of c.count_members-counted.result ≡ member_count_answer (tree_in (state)) =
-    c.count_members-counted.ensures ∙ ap member_count_answer (part_tree (state)) in
-    let few : ltb most_arcs (state).arcs ≡ false = le-ltb most_arcs (state).arcs c.if-m-gt-MOST_ARCS.false in
-    let ok = (counted (tree_in (state)) (answers) c.in-Members.is).0 in
+    let held = state_of c.args.state.now in
+    let next = state_of c.changed-next.result in
+    let event = event_of c.args.event in
+    let ok = (counted (tree_in held) (rw (part_tree held) at c.in_ok-members.ensures)).0 in
+    let fits = sym (c.in_ok-check.ensures ∙ fit_is held event ok) in
+    let arcs = c.changed-next.ensures.arcs_value in
+    let marks = c.changed-next.ensures.marks_value in
+    let few = state_check_few held c.if-m-gt-MOST_ARCS.false in
+    let check = reached_check held next event ok fits arcs marks in
+    let tree = tree_reached held next event ok fits arcs marks in
     record {
-      answer_value = rw (few, ok) c.apply_in_tree.ensures.answer_value;
-      state_value = rw (few, ok) c.apply_in_tree.ensures.state_value_2;
+      answer_value = rw (few, ok) (c.carry_out.ensures.answer_value ∙ reached_count held next event ok fits arcs marks);
+      state_value = rw (few, ok) (rw (check, tree) at c.carry_out.ensures.state_value);
     }

@@ -1,32 +1,21 @@
-use mathlib.Core.Path.{◌≡◌, ap, ◌∙◌}
-use Rattle.answers.specs.States.{State, padded}
-use Rattle.answers.specs.Events.{Event, apply_check}
-use Rattle.answers.specs.Quotes.{quote_on, ask_answer, asked_shares}
-use Rattle.events.specs.Inner.{quoted_with}
-use Rattle.events.specs.Outcomes.{state_of, event_of, quote_given_of}
-use Rattle.events.proofs.Counted.{passed, stopped_by}
-use Rattle.events.proofs.Quoted.{asked_answer, asked_shares_lem}
+use mathlib.Core.Path.{refl, sym, ap, ◌∙◌}
+use Rattle.answer_forms.proofs.Composed.{answered, refused_answer}
+use Rattle.answers.specs.States.{State, padded, made_state}
+use Rattle.answers.specs.Events.{apply_check}
+use Rattle.answers.specs.Quotes.{asked_shares}
+use Rattle.answers.proofs.EventLaws.{reached_accepted}
+use Rattle.events.specs.Outcomes.{state_of, event_of}
 use Rattle.events.proofs.asking.ask.Goals as goal
 
-pub returns-in_default : goal.returns-in_default
-unfolding asked_shares padded
-returns-in_default c =
-    let held : State = state_of c.args.state in
-    let event : Event = event_of c.args.event in
-    let answers : quote_given_of c.quote_given-answer.result ≡ ask_answer (held) (event) = c.quote_given-answer.ensures
-    ∙ ap (quoted_with (quote_on (held) (event))) c.apply_event-applied.ensures.answer_value
-    ∙ asked_answer (held) (event) in
-    let applied = c.apply_event-applied in
-    let away = stopped_by (apply_check (held) (event)) _ applied.ensures.answer_value c.in_default.is in
-    record { answer_value = answers; shares_value = rw away }
+pub returns-in-Ok-clause-shares_value : goal.returns-in-Ok-clause-shares_value
+unfolding asked_shares made_state
+returns-in-Ok-clause-shares_value c =
+    let s = state_of c.args.state in
+    let e = event_of c.args.event in
+    let go = (answered (apply_check s e) _ _ (sym c.in-Ok.ensures.answer_value)).0 in
+    ap (λ (made : State). made.shares) c.in-Ok.ensures.state_value ∙ rw (go, reached_accepted s e go) refl
 
-pub returns : goal.returns
-returns c =
-    let held : State = state_of c.args.state in
-    let event : Event = event_of c.args.event in
-    let answers : quote_given_of c.quote_given-answer.result ≡ ask_answer (held) (event) = c.quote_given-answer.ensures
-    ∙ ap (quoted_with (quote_on (held) (event))) c.apply_event-applied.ensures.answer_value
-    ∙ asked_answer (held) (event) in
-    let applied = c.apply_event-applied in
-    let go = (passed (apply_check (held) (event)) _ applied.ensures.answer_value c.in-Members.is).0 in
-    record { answer_value = answers; shares_value = asked_shares_lem (held) (event) _ go applied.ensures.state_value }
+pub returns-in-Err-clause-shares_value : goal.returns-in-Err-clause-shares_value
+unfolding asked_shares padded
+returns-in-Err-clause-shares_value c =
+    rw (refused_answer (apply_check (state_of c.args.state) (event_of c.args.event)) _ c.in-Err.ensures.answer_value) refl

@@ -1,18 +1,17 @@
-use Rattle.game.specs.Tree.{tree_of, Tree}
-use Rattle.answers.specs.States.{made_state}
-use Rattle.answers.proofs.Limits.{tree_limits}
-use Rattle.events.proofs.Counted.{counted, not_counted}
+use mathlib.Core.Path.{ap, ◌∙◌}
+use Rattle.answer_forms.specs.Answer.{written}
+use Rattle.answers.specs.Checks.{tree_check}
+use Rattle.answers.specs.States.{State, made_state}
+use Rattle.game.specs.Tree.{tree_of}
+use Rattle.events.proofs.Made.{made_or_zero}
 use Rattle.events.proofs.make.make_state.Goals as goal
 
-pub returns-in_default : goal.returns-in_default
-unfolding made_state
-returns-in_default c =
-    let tree : Tree = tree_of c.args.parents.now c.args.costs.now c.args.marks.now in
-    let is = c.count_members-counted.ensures in
-    record { answer_value = is; state_value = rw (not_counted (tree) is c.in_default.is) c.no_state.ensures }
-
-pub split_into_state-requires : goal.split_into_state-requires
-split_into_state-requires c =
-    let tree : Tree = tree_of c.args.parents.now c.args.costs.now c.args.marks.now in
-    let is = counted (tree) c.count_members-counted.ensures c.in-Members.is in
-    record { members_value = is.1; members_le_most_arcs = rw is.1 (tree_limits (tree) is.0).members }
+pub returns : goal.returns
+returns c =
+    let t = tree_of c.args.parents.now c.args.costs.now c.args.marks.now in
+    record {
+      answer_value = c.make-answer.ensures.answer_value;
+      state_value = c.make-answer.ensures.state_value
+          ∙ ap (λ (s : State). written (tree_check t) s (made_state t 0)) c.no_state-state.ensures
+          ∙ made_or_zero t 0;
+    }

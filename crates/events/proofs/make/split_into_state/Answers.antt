@@ -1,59 +1,62 @@
-use mathlib.Core.Path.{◌≡◌, ◌∙◌}
+use mathlib.Core.Path.{◌≡◌, refl, ap}
 use native.Mathlib.Omega.{arith}
-use Rattle.game.specs.Tree.{tree_of, Tree}
+use Rattle.game.specs.Tree.{tree_of}
+use Rattle.std.proofs.lemmas.Result.{err_from_is_err_and}
 use Rattle.answer_forms.specs.Answer.{accepted}
 use Rattle.answers.specs.Checks.{tree_check}
 use Rattle.answers.specs.Members.{member_count_answer}
-use Rattle.answers.specs.States.{made_state}
+use Rattle.answers.specs.States.{State}
 use Rattle.answers.proofs.Limits.{tree_limits}
-use Rattle.engine.specs.Outcomes.{member_count_of}
-use Rattle.events.proofs.Counted.{counted, not_counted}
-use Rattle.events.proofs.Made.{lent_answer, shares_padded, made}
+use Rattle.events.proofs.Arrays.{zeros_padded, zeros_room, front_padded}
+use Rattle.events.proofs.Made.{split_accepted, split_refused, shares_padded, made}
 use Rattle.events.proofs.make.split_into_state.Goals as goal
+use Rattle.events.proofs.make.split_into_state.Goals.{In_ok-split_by_arc}
 
-pub returns-in_default : goal.returns-in_default
-unfolding made_state
-returns-in_default c =
-    let tree : Tree = tree_of c.args.parents.now c.args.costs.now c.args.marks.now in
-    let answers : member_count_of c.split_by_arc-answer.result ≡ member_count_answer (tree) = let pre = c.requires in
-    c.split_by_arc-answer.ensures.result_value ∙ lent_answer (tree) _ pre.members_value pre.members_le_most_arcs in
-    let is = answers in
-    record { answer_value = is; state_value = rw (not_counted (tree) is c.in_default.is) c.no_state.ensures }
+tree_accepted : (c : In_ok-split_by_arc)
+    → tree_check (tree_of c.args.parents.now c.args.costs.now c.args.marks.now) ≡ accepted
+tree_accepted c =
+    split_accepted _ _ c.requires.members_value c.requires.members_le_most_arcs
+    zeros_padded c.in_ok-split_by_arc.ensures.result_value
 
-pub pad16-requires : goal.pad16-requires
-pad16-requires c =
-    let tree : Tree = tree_of c.args.parents.now c.args.costs.now c.args.marks.now in
-    let answers : member_count_of c.split_by_arc-answer.result ≡ member_count_answer (tree) = let pre = c.requires in
-    c.split_by_arc-answer.ensures.result_value ∙ lent_answer (tree) _ pre.members_value pre.members_le_most_arcs in
-    let accepted_tree : tree_check (tree) ≡ accepted = (counted _ (answers) c.in-Members.is).0 in
-    (tree_limits _ (accepted_tree)).arcs
+pub returns-in_err-split_by_arc : goal.returns-in_err-split_by_arc
+unfolding member_count_answer
+returns-in_err-split_by_arc c =
+    let t = tree_of c.args.parents.now c.args.costs.now c.args.marks.now in
+    let away = split_refused t _ c.requires.members_value c.requires.members_le_most_arcs zeros_padded
+    c.in_err-split_by_arc.ensures.result_value in
+    let exit = c.from_residual in
+    let passed_on = err_from_is_err_and exit.result exit.ensures.1 in
+    record { answer_value = rw (passed_on.1, passed_on.2, away) refl; state_value = rw away refl }
 
-pub pad32-requires : goal.pad32-requires
-pad32-requires c =
-    let tree : Tree = tree_of c.args.parents.now c.args.costs.now c.args.marks.now in
-    let answers : member_count_of c.split_by_arc-answer.result ≡ member_count_answer (tree) = let pre = c.requires in
-    c.split_by_arc-answer.ensures.result_value ∙ lent_answer (tree) _ pre.members_value pre.members_le_most_arcs in
-    let accepted_tree : tree_check (tree) ≡ accepted = (counted _ (answers) c.in-Members.is).0 in
-    let limits = tree_limits _ (accepted_tree) in omega (arith, limits.arcs, limits.costs)
+pub slice_bounds-copy_from_slice-end : goal.slice_bounds-copy_from_slice-end
+slice_bounds-copy_from_slice-end c =
+    let room = zeros_room (ap (λ (s : State). s.parents) c.no_state-state.ensures) in
+    let limits = tree_limits _ (tree_accepted (goal.at.slice_bounds-copy_from_slice-end c).In_ok-split_by_arc) in
+    omega (arith, room, limits.arcs)
 
-pub pad16-requires-2 : goal.pad16-requires-2
-pad16-requires-2 c =
-    let tree : Tree = tree_of c.args.parents.now c.args.costs.now c.args.marks.now in
-    let answers : member_count_of c.split_by_arc-answer.result ≡ member_count_answer (tree) = let pre = c.requires in
-    c.split_by_arc-answer.ensures.result_value ∙ lent_answer (tree) _ pre.members_value pre.members_le_most_arcs in
-    let accepted_tree : tree_check (tree) ≡ accepted = (counted _ (answers) c.in-Members.is).0 in
-    let limits = tree_limits _ (accepted_tree) in omega (arith, limits.arcs, limits.marks)
+pub slice_bounds-copy_from_slice-end-2 : goal.slice_bounds-copy_from_slice-end-2
+slice_bounds-copy_from_slice-end-2 c =
+    let room = zeros_room (ap (λ (s : State). s.costs) c.no_state-state.ensures) in
+    let limits = tree_limits _ (tree_accepted (goal.at.slice_bounds-copy_from_slice-end-2 c).In_ok-split_by_arc) in
+    omega (arith, room, limits.arcs, limits.costs)
+
+pub slice_bounds-copy_from_slice-end-3 : goal.slice_bounds-copy_from_slice-end-3
+slice_bounds-copy_from_slice-end-3 c =
+    let room = zeros_room (ap (λ (s : State). s.marks) c.no_state-state.ensures) in
+    let limits = tree_limits _ (tree_accepted (goal.at.slice_bounds-copy_from_slice-end-3 c).In_ok-split_by_arc) in
+    omega (arith, room, limits.arcs, limits.marks)
 
 pub returns : goal.returns
+unfolding member_count_answer
 returns c =
-    let tree : Tree = tree_of c.args.parents.now c.args.costs.now c.args.marks.now in
-    let answers : member_count_of c.split_by_arc-answer.result ≡ member_count_answer (tree) = let pre = c.requires in
-    c.split_by_arc-answer.ensures.result_value ∙ lent_answer (tree) _ pre.members_value pre.members_le_most_arcs in
-    let accepted_tree : tree_check (tree) ≡ accepted = (counted _ (answers) c.in-Members.is).0 in
-    let pre = c.requires in
-    let ok = accepted_tree in record {
-      answer_value = answers;
-      state_value = made (tree) ok c.pad16.ensures c.pad32.ensures
-          c.pad16-2.ensures
-          (shares_padded (tree) _ pre.members_value pre.members_le_most_arcs ok c.split_by_arc-answer.ensures.out_after);
+    let t = tree_of c.args.parents.now c.args.costs.now c.args.marks.now in
+    let ok = tree_accepted (goal.at.returns c).In_ok-split_by_arc in
+    record {
+      answer_value = rw (ok, c.requires.members_value) refl;
+      state_value = rw ok (made t _ ok
+          (front_padded (ap (λ (s : State). s.parents) c.no_state-state.ensures) c.copy_from_slice.ensures.after refl)
+          (front_padded (ap (λ (s : State). s.costs) c.no_state-state.ensures) c.copy_from_slice-2.ensures.after refl)
+          (front_padded (ap (λ (s : State). s.marks) c.no_state-state.ensures) c.copy_from_slice-3.ensures.after refl)
+          (shares_padded t _ c.requires.members_value c.requires.members_le_most_arcs zeros_padded ok
+          c.in_ok-split_by_arc.ensures.out_after));
     }

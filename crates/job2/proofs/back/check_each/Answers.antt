@@ -1,32 +1,20 @@
-use Prim.Native.Nat.{◌+◌}
-use mathlib.Core.Path.{◌≡◌, refl, sym, ap, ◌∙◌}
+use mathlib.Core.Path.{refl}
 use native.Mathlib.Omega.{arith}
-use lib.ListN.{length}
+use Rattle.answer_forms.proofs.PassedOn.{passed_on}
 use Rattle.answers.specs.Checks.{one_by_one}
 use Rattle.answers.proofs.OneByOne.{step_accepted, step_refused}
 use Rattle.job2.specs.Converter.{floored_check}
 use Rattle.job2.proofs.back.check_each.Goals as goal
 
-pub loop-i-init : goal.loop-i-init
-unfolding one_by_one floored_check
-loop-i-init c = (omega arith, refl)
+pub loop-j-init : goal.loop-j-init
+unfolding one_by_one
+loop-j-init c = refl
 
-pub returns-in_default : goal.returns-in_default
+pub returns-in_err-check_floor : goal.returns-in_err-check_floor
 unfolding floored_check
-returns-in_default c =
-    step_refused _ c.loop-i.i {k = c.loop-i.i + 1} _ (omega arith) c.loop-i.invariant.1
-    c.check_floor-found.ensures c.in_default.is _ (omega arith)
+returns-in_err-check_floor c =
+    passed_on _ _ c.from_residual.ensures.1
+    (step_refused _ c.loop-j.j c.loop-j.invariant c.in_err-check_floor.ensures refl _ (omega arith))
 
-pub loop-i-preserved : goal.loop-i-preserved
-unfolding floored_check
-loop-i-preserved c = (
-  omega arith,
-  step_accepted _ c.loop-i.i _ (omega arith) c.loop-i.invariant.1
-      c.check_floor-found.ensures c.in-Accepted.is,
-)
-
-pub returns : goal.returns
-unfolding floored_check
-returns c =
-    let all : c.loop-i.i ≡ length c.args.floors.now = omega (arith, c.loop-i.invariant.0) in
-    sym (ap (one_by_one _) (sym all) ∙ c.loop-i.invariant.1)
+pub loop-j-preserved : goal.loop-j-preserved
+loop-j-preserved c = step_accepted _ c.loop-j.j c.loop-j.invariant c.in_ok-check_floor.ensures refl

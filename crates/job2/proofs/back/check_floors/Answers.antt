@@ -8,26 +8,26 @@ use Rattle.job_checks.proofs.Counted.{member_column}
 use Rattle.job2.proofs.Readable.{readable}
 use Rattle.job2.proofs.back.check_floors.Goals as goal
 
-pub read_trailer-t-requires : goal.read_trailer-t-requires
-read_trailer-t-requires c = (readable Two _ c.requires).layout.long
+pub read-t-requires : goal.read-t-requires
+read-t-requires c = (readable Two _ c.requires).layout.long
 
-pub read_u64-requires : goal.read_u64-requires
+pub read_column-requires : goal.read_column-requires
 unfolding floor_width
-read_u64-requires c =
+read_column-requires c =
     let r = readable Two _ c.requires in
-    let t = c.read_trailer-t.ensures in
+    let t = c.read-t.ensures in
     let within = member_column Two c.args.bytes.now {floor = 8} r.layout t.member_offset_is
     t.members_is refl 8 16 (omega arith) in
     record { width_bound = omega arith; within = within; rows_in_bounds = omega (arith, r.room.for_caps, t.members_is) }
 
 pub slice_bounds-check_each-end : goal.slice_bounds-check_each-end
-slice_bounds-check_each-end c = omega (arith, (readable Two _ c.requires).room.for_caps, c.read_trailer-t.ensures.members_is)
+slice_bounds-check_each-end c = omega (arith, (readable Two _ c.requires).room.for_caps, c.read-t.ensures.members_is)
 
 pub returns : goal.returns
 unfolding floor_width
 returns c =
-    let t = c.read_trailer-t.ensures in
+    let t = c.read-t.ensures in
     let bytes = c.args.bytes.now in
-    let floors = entries_part _ _ _ c.read_u64.ensures in
+    let floors = entries_part _ _ _ c.read_column.ensures in
     let found = rw (t.members_is, t.member_offset_is) at (rw floors at c.check_each.ensures) in
     rw (entries_length (floor_at Two bytes (member_offset bytes)) (job_members bytes)) at found

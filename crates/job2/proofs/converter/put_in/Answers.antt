@@ -9,24 +9,24 @@ read_contents-t-requires c =
     let r = readable (other c.args.version) _ c.requires.bytes_value
     in record { layout = rw c.other_version-from.ensures r.layout; room = r.room }
 
-pub slice_bounds-put_contents-end : goal.slice_bounds-put_contents-end
-slice_bounds-put_contents-end c =
+pub slice_bounds-lists-end : goal.slice_bounds-lists-end
+slice_bounds-lists-end c =
     omega (
       arith,
       (readable (other c.args.version) _ c.requires.bytes_value).arcs_within,
       c.read_contents-t.ensures.trailer_of.arc_offset_is,
     )
 
-pub slice_bounds-put_contents-end-2 : goal.slice_bounds-put_contents-end-2
-slice_bounds-put_contents-end-2 c =
+pub slice_bounds-lists-end-2 : goal.slice_bounds-lists-end-2
+slice_bounds-lists-end-2 c =
     omega (
       arith,
       (readable (other c.args.version) _ c.requires.bytes_value).room.for_parents,
       c.read_contents-t.ensures.trailer_of.arcs_is,
     )
 
-pub slice_bounds-put_contents-end-4 : goal.slice_bounds-put_contents-end-4
-slice_bounds-put_contents-end-4 c =
+pub slice_bounds-lists-end-4 : goal.slice_bounds-lists-end-4
+slice_bounds-lists-end-4 c =
     omega (
       arith,
       (readable (other c.args.version) _ c.requires.bytes_value).room.for_caps,
@@ -43,7 +43,8 @@ put_contents-requires c =
     let costs = values_part _ _ _ t.arcs_is read.costs_after in
     let caps = values_part _ _ _ t.members_is (rw from at read.caps_after) in
     let proposals = values_part _ _ _ t.members_is (rw from at read.proposals_after) in
-    rw (note, parents, costs, caps, proposals) (ready _ _ c.requires.bytes_value c.args.out.now c.requires.bytes_in_bounds)
+    rw (note, parents, costs, caps, proposals)
+    (ready _ _ c.requires.bytes_value c.args.out.now c.requires.bytes_in_bounds)
 
 pub returns : goal.returns
 unfolding in_version

@@ -1,22 +1,16 @@
-use Prim.Native.Nat.{◌<◌}
-use native.Mathlib.Omega.{arith}
-use Rattle.job_bytes.proofs.Reading.{reading_start, reading_room, reading_on}
+use Rattle.std.proofs.Common.{◌≡◌, ◌+◌, ◌-◌, fold, reverse, take, drop, arith, rules, ◌∙◌}
+use Rattle.job_bytes.specs.Numbers.{Bytes}
+use Rattle.job_bytes.proofs.Reading.{behind, read_back}
+use Rattle.job_bytes.proofs.Standing.{number_small}
 use Rattle.job_bytes.proofs.number.number_at.Goals as goal
 
-pub loop-i-init : goal.loop-i-init
-loop-i-init c = reading_start _ _ _
-
-pub overflow_mul-n : goal.overflow_mul-n
-overflow_mul-n c =
-    let room : c.loop-i.n < 72057594037927936 =
-    reading_room _ _ _ c.loop-i.invariant c.loop-i-test.true c.requires.width_bound in
-    omega (arith, room)
-
-pub overflow_add-n : goal.overflow_add-n
-overflow_add-n c =
-    let room : c.loop-i.n < 72057594037927936 =
-    reading_room _ _ _ c.loop-i.invariant c.loop-i-test.true c.requires.width_bound in
-    omega (arith, room, c.wide.ensures.upper_bound)
-
-pub loop-i-preserved : goal.loop-i-preserved
-loop-i-preserved c = reading_on _ _ _ c.loop-i.invariant c.loop-i-test.true _ c.wide.ensures.value c.wide.ensures.upper_bound
+pub returns : goal.returns
+returns c =
+    let at = c.args.at in
+    let width = c.args.width in
+    let bytes = c.args.bytes.now in
+    let folded : c.fold.result ≡ fold behind 0 (reverse (take (at + width - at) (drop at bytes))) = search rules in
+    let part : at + width - at ≡ width = omega arith in
+    let small : Bytes bytes = λ i. omega (arith, c.type_inv.bytes i) in
+    let value = rw part at folded ∙ read_back bytes small width at c.requires.width_bound c.requires.width_in_bounds in
+    record { value = value; upper_bound = rw value (number_small bytes small width at) }

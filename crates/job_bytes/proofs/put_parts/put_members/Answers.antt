@@ -1,6 +1,8 @@
 use mathlib.Core.Path.{refl}
 use native.Mathlib.Omega.{arith}
-use lib.ListN.{length, replicate}
+use Rattle.std.proofs.Common.{rules}
+use lib.IntN.{pos}
+use lib.ListN.{length, get_or, replicate}
 use mir.Syntax.{w64}
 use mir.Facts.{to_z-of_z}
 use Rattle.buffer.proofs.Listing.{listed_start, listed_on, listed_end}
@@ -17,9 +19,10 @@ pub loop-j-preserved : goal.loop-j-preserved
 loop-j-preserved c =
     let row = c.put_member-next.ensures in
     let args = c.args in
+    let proposal = get_or args.proposals.now c.loop-j.j (pos 0) in
     listed_on _ _ _ _ _ c.requires.caps_in_bounds c.loop-j.invariant c.loop-j-test.true
     (member_more args.version args.caps.now args.proposals.now _ c.loop-j-test.true)
-    (rw (to_z-of_z {w = w64} (record { sfits = c.put_member-arg-in-loop-j-1.given })) at row.put)
+    (rw (to_z-of_z {w = w64} {z = proposal} (record { sfits = search rules })) at row.put)
     (omega (arith, row.value))
 
 pub returns : goal.returns

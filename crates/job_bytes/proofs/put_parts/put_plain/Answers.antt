@@ -1,6 +1,7 @@
+use Rattle.std.proofs.Common.{ℕ}
+use Rattle.std.proofs.lemmas.List.{take-replicate}
 use Rattle.limits.specs.Limits.{most_arcs}
-use Rattle.job_bytes.proofs.Zeros.{zeros_part}
 use Rattle.job_bytes.proofs.put_parts.put_plain.Goals as goal
 
 pub returns : goal.returns
-returns c = rw (zeros_part most_arcs _ c.requires.parents_len_bound) at c.put_job.ensures
+returns c = rw (take-replicate {X = ℕ} _ most_arcs 0 c.requires.parents_len_bound) at c.put_job.ensures

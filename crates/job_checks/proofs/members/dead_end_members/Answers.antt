@@ -6,5 +6,5 @@ use Rattle.job_checks.proofs.members.dead_end_members.Goals as goal
 
 pub returns : goal.returns
 returns c =
-    let count = c.mark_count-n.ensures in
+    let count = c.min-n.ensures in
     c.mark_dead_ends.ensures.result_value ∙ dead_ends_counted _ _ _ (zeros_length 1023 _ (omega (arith, count)) ∙ count)

@@ -4,4 +4,4 @@ use Rattle.job_checks.proofs.values.check_limits.Goals as goal
 
 pub returns : goal.returns
 unfolding floor_width
-returns c = rw (entries_part _ _ _ c.read_u64.ensures) at c.check_limits.ensures
+returns c = rw (entries_part _ _ _ c.read_column.ensures) at c.check_limits.ensures

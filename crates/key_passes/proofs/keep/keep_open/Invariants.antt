@@ -1,10 +1,7 @@
-use Prim.Native.Nat.{◌-◌}
-use lib.ListN.{length}
 use Rattle.key_passes.proofs.Keeping.{Keeping}
 use Rattle.key_passes.proofs.keep.keep_open.Given as goal
 
 abbrev pub invariant-loop-i : goal.invariant-loop-i
-invariant-loop-i l = Keeping l.initial.order l.initial.links l.bounds l.flags l.lows l.highs l.initial.rests l.order l.links l.rests l.next l.i
-
-abbrev pub decreases-loop-i : goal.decreases-loop-i
-decreases-loop-i l = length l.initial.order - l.i
+invariant-loop-i l =
+    Keeping l.initial.order l.initial.links l.bounds l.flags l.lows l.highs l.initial.rests
+    l.order l.links l.rests l.next l.i

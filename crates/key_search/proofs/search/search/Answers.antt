@@ -1,44 +1,31 @@
-use Rattle.std.proofs.Common.{◌≡◌, ◌+◌, ◌-◌, refl, ◌∙◌, arith, length-take}
-use native.Mathlib.Nat.{sub-zero}
+use Rattle.std.proofs.Common.{◌≡◌, ◌+◌, refl, ◌∙◌, arith, length-take}
 use lib.ListN.{get_or-replicate}
 use lib.Seq.{take-length}
 use Rattle.game.proofs.Encoding.{zeros}
-use Rattle.key_search.proofs.Searching.{last_key, Ready, standing_start, standing_on, standing_end}
+use Rattle.key_search.proofs.Searching.{last_key, as_ready, standing_start, standing_on, standing_end}
 use Rattle.key_search.proofs.Searching.{few_bounds, rises_by_bounds, closed, room, addable, nearer}
 use Rattle.key_search.proofs.Searching.{back_sized, back_within, back_open}
 use Rattle.key_search.proofs.search.search.Goals as goal
 
 pub loop-count-init : goal.loop-count-init
 loop-count-init c =
-    let ready : let args =
-    c.args in Ready args.parents.now args.vertices.now args.caps.now args.bounds.now args.caps_at.now args.numbers_at.now = let pre = c.requires in
-    record {
-      sound = pre.sound;
-      listed = pre.listed;
-      capped = pre.capped;
-      bounded = pre.bounds;
-      placed = pre.at_vertices;
-    } in
-    let all = c.open_all.ensures in (
+    let pre = c.requires in
+    let all = c.open_all.ensures in
+    let ready = as_ready pre.sound pre.listed pre.capped pre.bounds pre.at_vertices in (
       ready,
       omega arith,
       refl,
-      standing_start (ready) (rw sub-zero (take-length _ ∙ all.order_after)) all.by_index c.requires.by_index
-          (λ v i. get_or-replicate 1024 v (last_key + 1) 0 (omega (arith, c.requires.sound.few))) (zeros 1024) (zeros 1024)
-          refl,
+      standing_start ready (take-length _ ∙ all.order_after) all.by_index pre.by_index
+          (λ v i. get_or-replicate 1024 v (last_key + 1) 0 (omega (arith, pre.sound.few))) (zeros 1024) (zeros 1024) refl,
     )
 
 pub evaluate-requires : goal.evaluate-requires
 evaluate-requires c =
     let inv = c.loop-count.invariant in
-    let all = inv.0 in
     let standing = inv.3 in
-    let adding = addable all standing c.choose.ensures in
     record {
-      bounds_len_bound = few_bounds all;
-      rising = rises_by_bounds all standing;
-      addable = adding;
-      by_index = closed all standing;
+      addable = addable inv.0 standing c.choose.ensures;
+      by_index = closed inv.0 standing;
       by_index_2 = standing.no_sums;
       sums_value = standing.no_sum;
     }
@@ -59,7 +46,7 @@ loop-count-smaller c =
     let at_loop = c.loop-count in
     let inv = at_loop.invariant in
     nearer inv.0 inv.3 c.choose.ensures c.evaluate.ensures.evaluated c.settle.ensures
-    (omega (arith, length-take (at_loop.count - 0) at_loop.order, inv.1, c.loop-count-test.true))
+    (omega (arith, length-take at_loop.count at_loop.order, inv.1, c.loop-count-test.true))
 
 pub loop-count-preserved : goal.loop-count-preserved
 loop-count-preserved c =
@@ -80,5 +67,5 @@ loop-count-preserved c =
 pub returns : goal.returns
 returns c =
     let inv = c.loop-count.invariant in
-    let none : c.loop-count.count - 0 ≡ 0 = omega (arith, c.loop-count-test.false) in
+    let none : c.loop-count.count ≡ 0 = omega (arith, c.loop-count-test.false) in
     standing_end inv.0 inv.3 (rw none refl)

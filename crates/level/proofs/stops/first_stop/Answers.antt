@@ -1,31 +1,27 @@
 use Prim.Native.Nat.{◌-◌}
-use mathlib.Core.Path.{sym, ◌∙◌}
+use mathlib.Core.Path.{refl, sym, ◌∙◌}
 use native.Mathlib.Omega.{arith}
+use Rattle.std.proofs.lemmas.Result.{err_from_is_err_and}
 use Rattle.level.proofs.Stopped.{none_left, stop_here, stop_later}
 use Rattle.level.proofs.stops.first_stop.Goals as goal
 
-pub returns-in_default : goal.returns-in_default
-returns-in_default c =
+pub returns-in_err-stop_at : goal.returns-in_err-stop_at
+returns-in_err-stop_at c =
     λ members.
-    let at = c.loop-k in
-    let here = c.stop_at-stop.ensures members in
-    stop_here members _ _ _ _ at.k (at.k - 1) _ (omega arith) here c.in_default.is
-    ∙ sym (at.invariant.4 members)
+    let at = c.loop-i in
+    let p = err_from_is_err_and c.from_residual.result c.from_residual.ensures.1 in
+    rw (p.1, p.2)
+    (stop_here members _ _ _ _ at.i (at.i - 1) (omega arith) (c.in_err-stop_at.ensures members) refl
+    ∙ sym (at.invariant members))
 
-pub loop-k-preserved : goal.loop-k-preserved
-loop-k-preserved c =
-    let at = c.loop-k in (
-      at.invariant.0,
-      at.invariant.1,
-      at.invariant.2,
-      omega arith,
-      λ members.
-          let here = c.stop_at-stop.ensures members in
-          at.invariant.4 members
-          ∙ stop_later members _ _ _ _ at.k (at.k - 1) _ (omega arith) here c.in-Nothing.is,
-    )
+pub loop-i-preserved : goal.loop-i-preserved
+loop-i-preserved c =
+    λ members.
+    let at = c.loop-i in
+    at.invariant members
+    ∙ stop_later members _ _ _ _ at.i (at.i - 1) (omega arith) (c.in_ok-stop_at.ensures members) refl
 
 pub returns : goal.returns
 returns c =
     λ members.
-    sym (c.loop-k.invariant.4 members ∙ none_left members _ _ _ _ (omega (arith, c.loop-k-test.false)))
+    sym (c.loop-i.invariant members ∙ none_left members _ _ _ _ (omega (arith, c.loop-i-test.false)))

@@ -1,19 +1,16 @@
-use mathlib.Core.Path.{sym, ◌∙◌}
+use Rattle.std.proofs.Common.{◌≡◌, List, ℕ, Bor, Option, None, Some, [], refl, ap, ◌∙◌, option_map, unwrap_or}
+use Rattle.std.proofs.lemmas.Option.{unwrap_or-slice_get}
 use Rattle.test_lines.specs.Fields.{fields_of}
-use Rattle.test_lines.proofs.Fields.{from_past, field_at, nth_of}
 use Rattle.test_lines.proofs.field.nth.Goals as goal
 
-pub returns-then-line-from : goal.returns-then-line-from
-returns-then-line-from c =
-    let a = c.args in
-    let s = c.start-from in
-    let none = from_past a.line.now s.result c.if-line-from.true in
-    nth_of (fields_of a.line.now) a.n (sym none ∙ s.ensures)
+now_unwrap_or : (field : Option (Bor (List ℕ))) (default : Bor (List ℕ))
+    → (unwrap_or field default).now ≡ unwrap_or (option_map (λ f. f.now) field) default.now
+now_unwrap_or None default = refl
+now_unwrap_or (Some f) default = refl
 
 pub returns : goal.returns
 returns c =
-    let a = c.args in
-    let s = c.start-from in
-    let f = c.find-to in
-    let here = field_at a.line.now s.result f.result c.if-line-from.false f.ensures.value in
-    nth_of (fields_of a.line.now) a.n (sym here ∙ s.ensures)
+    ap (λ (f : Bor (List ℕ)). f.now) c.unwrap_or.ensures
+    ∙ now_unwrap_or c.get.result _
+    ∙ ap (λ (f : Option (List ℕ)). unwrap_or f []) c.get.ensures
+    ∙ unwrap_or-slice_get (fields_of c.args.line.now) c.args.n []

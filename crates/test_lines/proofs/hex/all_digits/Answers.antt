@@ -1,14 +1,13 @@
-use native.Mathlib.Omega.{arith}
-use Rattle.test_lines.proofs.HexLaws.{digits_on, digits_stop, digits_end}
+use Rattle.std.proofs.Common.{rules, tests, ltb, sym, ◌∙◌}
+use Rattle.std.proofs.lemmas.Iterator.{YieldsList-from_slice}
+use Rattle.std.proofs.lemmas.Iterator.Search.{all_from_yields_List}
+use Rattle.test_lines.specs.Hex.{digit_of}
+use Rattle.test_lines.proofs.HexLaws.{all_digits_is}
 use Rattle.test_lines.proofs.hex.all_digits.Goals as goal
 
-pub returns-then-digit-eq16 : goal.returns-then-digit-eq16
-returns-then-digit-eq16 c = digits_stop _ _ c.loop-i.invariant c.loop-i-test.true (omega (arith, c.digit.ensures.value))
-
-pub loop-i-preserved : goal.loop-i-preserved
-loop-i-preserved c =
-    let digit = c.digit.ensures in
-    digits_on _ _ c.loop-i.invariant c.loop-i-test.true (omega (arith, digit.value, digit.upper_bound))
-
 pub returns : goal.returns
-returns c = digits_end _ _ c.loop-i.invariant c.loop-i-test.false
+returns c =
+    all_from_yields_List (λ x. ltb (digit_of x) 16) _ _ _ c.all.ensures.ran
+    (YieldsList-from_slice c.args.s.now (cc))
+    (λ x b q k. search (rules, tests))
+    ∙ sym (all_digits_is c.args.s.now)

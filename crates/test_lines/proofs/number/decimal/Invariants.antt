@@ -1,9 +1,7 @@
-use Prim.Native.Nat.{◌-◌}
-use lib.ListN.{length}
+use Rattle.std.proofs.Common.{◌<◌, ◌^◌}
+use Rattle.test_lines.proofs.Numbers.{ReadTo}
 use Rattle.test_lines.proofs.number.decimal.Given as goal
 
-abbrev pub invariant-loop-i : goal.invariant-loop-i
-invariant-loop-i l = Unit {0}
-
-abbrev pub decreases-loop-i : goal.decreases-loop-i
-decreases-loop-i l = length l.s - l.i
+-- the digits so far
+abbrev pub invariant-loop-byte : goal.invariant-loop-byte
+invariant-loop-byte l = ReadTo l.s l.byte-index l.n × (l.n < 2 ^ 64)

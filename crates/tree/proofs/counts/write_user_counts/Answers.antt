@@ -1,5 +1,7 @@
-use mathlib.Core.Path.{◌∙◌}
+use mathlib.Core.Path.{◌≡◌, ◌∙◌}
 use mathlib.Core.List.{[]}
+use borrow.Author.Rules.{rules}
+use lib.ListN.{length, replicate}
 use Rattle.tree.specs.Passes.{network_at}
 use Rattle.tree.proofs.Vertices.{vertices_count}
 use Rattle.tree.proofs.UserCounts.{ones_count}
@@ -9,6 +11,7 @@ pub returns : goal.returns
 returns c =
     let args = c.args in
     let pre = c.requires in
+    let ones : c.fill.new.self ≡ replicate (length args.ones.now) 1 = search rules in
     c.write_cap_sums.ensures.out_after
-    ∙ ones_count c.write_all.ensures (network_at args.parents.now [] args.vertices.now)
+    ∙ ones_count ones (network_at args.parents.now [] args.vertices.now)
     (pre.ones_len ∙ vertices_count _ _ pre.listed)

@@ -1,77 +1,73 @@
-use Prim.Native.Nat.{◌-◌, ◌≤◌, ◌<◌}
-use mathlib.Core.Path.{◌≡◌, ap, ◌∙◌}
-use mathlib.Core.Bool.{Bool, false, cond}
-use lib.ListN.{length, get_or}
-use lib.Dec.{eqb}
+use Prim.Native.Nat.{◌+◌, ◌-◌}
+use mathlib.Core.Path.{◌≡◌, refl, ◌∙◌}
 use native.Mathlib.Omega.{arith}
-use Rattle.limits.specs.Limits.{most_arcs}
+use lib.ListN.{get_or}
 use Rattle.basics.specs.Bit.{bit}
-use Rattle.tree.proofs.GroupPass.{in_use, costing_start, costing_on}
-use Rattle.tree.proofs.GroupPass.{costing_few, costing_used, costing_fits}
+use Rattle.basics.specs.Sum.{pick}
+use Rattle.tree.proofs.MemberPass.{up_to}
+use Rattle.tree.proofs.GroupPass.{in_use, costing_start, costing_few, costing_fits, costing_on}
+use Rattle.tree.proofs.GroupPass.{left_at_member, used_at_member, left_elsewhere, used_elsewhere}
 use Rattle.tree.proofs.group.cost_of.Goals as goal
+use Rattle.tree.proofs.group.cost_of.Goals.{Joined-marks-i-eq1}
+use Rattle.tree.proofs.group.cost_of.Goals.{then-marks-i-eq1, else-marks-i-eq1, then-here, else-here}
 
-pub loop-k-init : goal.loop-k-init
-loop-k-init c = (
-  c.requires.sound,
-  c.requires.costed,
-  c.requires.marked,
-  omega arith,
-  omega arith,
-  costing_start _ _ _ c.args.words (omega arith) c.requires.members_value,
-)
+pub loop-i-init : goal.loop-i-init
+loop-i-init c = costing_start _ _ _ c.args.words refl c.requires.members_value
 
 pub bounds-words-j : goal.bounds-words-j
-bounds-words-j c =
-    let few : c.loop-k.j ≤ most_arcs = let inv = c.loop-k.invariant in
-    costing_few _ _ _ c.args.words inv.0 (omega arith) inv.5 in
-    omega (arith, few)
+bounds-words-j c = omega (arith, costing_few _ _ _ c.args.words c.requires.sound (omega arith) c.loop-i.invariant)
+
+-- whether the group uses the arc
+used_here : (c : Joined-marks-i-eq1)
+    → c.if-marks-i-eq1.here ≡ in_use c.args.parents.now c.args.costs.now c.args.marks.now c.args.words c.loop-i.i
+unfolding bit
+used_here c =
+    let pre = c.requires in
+    let inv = c.loop-i.invariant in
+    elim c.if-marks-i-eq1.branch [
+      | then-marks-i-eq1 w ↦
+          w.here-is ∙ w.bit_of-here.ensures
+          ∙ used_at_member _ _ _ c.args.words pre.sound pre.costed pre.marked c.loop-i-test.true (omega arith) inv
+          w.if-marks-i-eq1.true
+      | else-marks-i-eq1 w ↦
+          w.here-is
+          ∙ used_elsewhere _ _ _ c.args.words pre.sound pre.costed pre.marked c.loop-i-test.true (omega arith) inv
+          w.if-marks-i-eq1.false
+    ]
 
 pub overflow_add-cost : goal.overflow_add-cost
-unfolding bit
 overflow_add-cost c =
-    let place : c.loop-k.k - 1 - 1 < length c.args.parents.now =
-    omega (arith, c.loop-k.invariant.4, c.loop-k-test.true) in
-    let chosen_bit : c.bit_of-chosen.result ≡ bit c.args.words (c.loop-k.j - c.one_if_marked-j.result) =
-    c.bit_of-chosen.ensures in
-    let here_used : let args =
-    c.args in c.used_here-here.result
-    ≡ in_use args.parents.now args.costs.now args.marks.now c.args.words (c.loop-k.k - 1) = let at = c.loop-k in
-    let marks = c.args.marks.now in
-    c.used_here-here.ensures
-    ∙ ap (λ (b : Bool). cond (eqb (get_or marks (at.k - 1 - 1) 0) 1) b (get_or at.used (at.k - 1) false))
-    (chosen_bit)
-    ∙ costing_used _ _ _ c.args.words at.invariant.0 at.invariant.1 at.invariant.2 (omega arith)
-    (omega (arith, place)) at.invariant.5 c.one_if_marked-j.ensures in
-    let inv = c.loop-k.invariant in
+    let pre = c.requires in
     omega (
       arith,
-      costing_fits _ _ _ c.args.words inv.0 inv.1 inv.2 (omega arith) (omega (arith, place))
-          inv.5 (here_used) c.cost_if-cost.ensures,
+      costing_fits _ _ _ c.args.words pre.sound pre.costed pre.marked c.loop-i-test.true (omega arith)
+          c.loop-i.invariant (used_here (goal.at.overflow_add-cost c).Joined-marks-i-eq1) c.if-here.true,
     )
 
-pub loop-k-preserved : goal.loop-k-preserved
-unfolding bit
-loop-k-preserved c =
-    let place : c.loop-k.k - 1 - 1 < length c.args.parents.now =
-    omega (arith, c.loop-k.invariant.4, c.loop-k-test.true) in
-    let chosen_bit : c.bit_of-chosen.result ≡ bit c.args.words (c.loop-k.j - c.one_if_marked-j.result) =
-    c.bit_of-chosen.ensures in
-    let here_used : let args =
-    c.args in c.used_here-here.result
-    ≡ in_use args.parents.now args.costs.now args.marks.now c.args.words (c.loop-k.k - 1) = let at = c.loop-k in
-    let marks = c.args.marks.now in
-    c.used_here-here.ensures
-    ∙ ap (λ (b : Bool). cond (eqb (get_or marks (at.k - 1 - 1) 0) 1) b (get_or at.used (at.k - 1) false))
-    (chosen_bit)
-    ∙ costing_used _ _ _ c.args.words at.invariant.0 at.invariant.1 at.invariant.2 (omega arith)
-    (omega (arith, place)) at.invariant.5 c.one_if_marked-j.ensures in
-    let inv = c.loop-k.invariant in (
-      inv.0,
-      inv.1,
-      inv.2,
-      omega (arith, c.loop-k-test.true),
-      omega arith,
-      costing_on _ _ _ _ inv.0 inv.1 inv.2 (omega arith) (omega (arith, place)) inv.5
-          c.one_if_marked-j.ensures (here_used) c.cost_if-cost.ensures
-          c.either.ensures,
-    )
+pub loop-i-preserved : goal.loop-i-preserved
+loop-i-preserved c =
+    let pre = c.requires in
+    let inv = c.loop-i.invariant in
+    let left : c.if-marks-i-eq1.j ≡ up_to c.args.marks.now (c.loop-i.i - 1) =
+    elim c.if-marks-i-eq1.branch [
+      | then-marks-i-eq1 w ↦
+          omega (
+            arith,
+            w.j-is,
+            left_at_member _ _ _ c.args.words pre.sound pre.costed pre.marked c.loop-i-test.true (omega arith) inv
+                w.if-marks-i-eq1.true,
+          )
+      | else-marks-i-eq1 w ↦
+          w.j-is
+          ∙ left_elsewhere _ _ _ c.args.words pre.sound pre.costed pre.marked c.loop-i-test.true (omega arith) inv
+          w.if-marks-i-eq1.false
+    ] in
+    let cost_here = get_or c.args.costs.now (c.loop-i.i - 1) 0 in
+    let paid : c.if-here.cost ≡ c.loop-i.cost + pick c.if-marks-i-eq1.here cost_here =
+    elim c.if-here.branch [
+      | then-here w ↦ rw w.if-here.true (omega arith)
+      | else-here w ↦ rw w.if-here.false (omega arith)
+    ] in
+    rw c.from-p.ensures
+    (costing_on _ _ _ c.args.words pre.sound pre.costed pre.marked c.loop-i-test.true (omega arith) inv
+    (used_here (goal.at.loop-i-preserved c).Joined-marks-i-eq1) left paid)

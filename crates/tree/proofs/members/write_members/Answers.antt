@@ -1,26 +1,26 @@
-use mathlib.Core.Path.{refl, ◌∙◌}
 use native.Mathlib.Omega.{arith}
-use Rattle.tree.proofs.MemberPass.{up_to_le, listing_start, listing_room, listing_on}
+use Rattle.tree.proofs.MemberPass.{up_to_le, listing_start, listing_room, listing_member, listing_other}
 use Rattle.tree.proofs.members.write_members.Goals as goal
+use Rattle.tree.proofs.members.write_members.Goals.{then-mark-eq1, else-mark-eq1}
 
 pub loop-i-init : goal.loop-i-init
-loop-i-init c = let pre = c.requires in (pre.marks_len_bound, omega arith, refl, pre.out_len, listing_start _)
+loop-i-init c = listing_start _
 
-pub place_member-j-requires : goal.place_member-j-requires
-place_member-j-requires c =
-    let inv = c.loop-i.invariant in
-    record {
-      j_le_most_arcs = omega (arith, inv.4.place, up_to_le c.args.marks.now c.loop-i.i, inv.0);
-      j_in_bounds = listing_room _ c.loop-i-test.true inv.3 inv.4;
-    }
+pub offset_bounds-out-j : goal.offset_bounds-out-j
+offset_bounds-out-j c = omega (arith, c.loop-i.invariant.place, up_to_le c.args.marks.now c.loop-i.i)
+
+pub bounds-out-j : goal.bounds-out-j
+bounds-out-j c = listing_room _ c.loop-i-test.true (omega arith) c.loop-i.invariant c.if-mark-eq1.true
+
+pub overflow_add-j : goal.overflow_add-j
+overflow_add-j c = omega (arith, c.loop-i.invariant.place, up_to_le c.args.marks.now c.loop-i.i)
 
 pub loop-i-preserved : goal.loop-i-preserved
 loop-i-preserved c =
-    let inv = c.loop-i.invariant in
-    let put = c.place_member-j in (
-      inv.0,
-      omega arith,
-      put.auto.out ∙ inv.2,
-      put.auto.out ∙ inv.3,
-      listing_on _ c.loop-i-test.true inv.3 inv.4 (omega arith) put.ensures.value put.ensures.out_after,
-    )
+    let at = c.loop-i in
+    elim c.if-mark-eq1.branch [
+      | then-mark-eq1 w ↦
+          rw (w.out-is, w.j-is) (listing_member _ c.loop-i-test.true (omega arith) at.invariant w.if-mark-eq1.true)
+      | else-mark-eq1 w ↦
+          rw (w.out-is, w.j-is) (listing_other _ c.loop-i-test.true (omega arith) at.invariant w.if-mark-eq1.false)
+    ]

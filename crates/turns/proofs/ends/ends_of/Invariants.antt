@@ -1,11 +1,8 @@
-use Prim.Native.Nat.{◌-◌, ◌≤◌}
-use lib.ListN.{length}
-use Rattle.turns.specs.Keys.{Keys}
-use Rattle.turns.proofs.Loops.{Ending}
+use Rattle.std.proofs.Common.{ℕ, ◌<◌, ◌≤◌, get_or}
+use Rattle.turns.specs.Keys.{Keys, key_limit}
 use Rattle.turns.proofs.ends.ends_of.Given as goal
 
-abbrev pub invariant-loop-i : goal.invariant-loop-i
-invariant-loop-i l = Keys l.keys × (l.i ≤ length l.keys) × Ending l.keys l.least l.greatest l.i
-
-abbrev pub decreases-loop-i : goal.decreases-loop-i
-decreases-loop-i l = length l.keys - l.i
+abbrev pub invariant-loop-key : goal.invariant-loop-key
+invariant-loop-key l =
+    Keys l.keys × (l.greatest < key_limit) × ((u : ℕ) → u < l.key-index → l.least ≤ get_or l.keys u 0)
+    × ((u : ℕ) → u < l.key-index → get_or l.keys u 0 ≤ l.greatest)
