@@ -1,3 +1,4 @@
 pub mod Composed
+pub mod OneToOne
 pub mod PassedOn
 pub mod Reasons

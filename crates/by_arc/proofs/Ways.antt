@@ -78,7 +78,8 @@ module _ (ps cs counts : List ℕ) where
       module _ (h : i < length ps) {parent above own part : ℕ} (at : parent ≡ get_or ps i 0)
           (up : above ≡ of_arc parts parent) (divided : own ≡ get_or cs i 0 / get_or parts i 0)
           (same : part ≡ own) where
-        way_on : above + part ≡ sum_above (network_of ps [] []) x (suc i)
+        -- what is written: the parts on the way to vertex i + 1
+        pub way_on : above + part ≡ sum_above (network_of ps [] []) x (suc i)
         way_on =
             omega (
               arith,

@@ -7,6 +7,7 @@ ghost use Rattle.answer_forms.specs.Checked.{answer_of};
 ghost use Rattle.events.specs.Outcomes.{state_of, change_of, event_of};
 ghost use Rattle.capi.specs.Structs.{encode_state, decode_state, change_by, event_by};
 
+use crate::members::ZilqodurMembers;
 use events::{Change, Event, State, StateAnswer};
 
 // `kind` is 0 for arrive and 1 for leave; every other number is a new cost, which alone looks at `amount`.
@@ -52,19 +53,13 @@ impl From<StateAnswer> for ZilqodurStateAnswer {
     ghost from_gives = { λ found s. s ≡ encode_state (answer_of found.answer) found.state };
 
     fn from(found: StateAnswer) -> Self {
-        match found.answer {
-            Ok(members) => ZilqodurStateAnswer {
-                refusal: 0,
-                place: 0,
-                members,
-                state: found.state,
-            },
-            Err(refusal) => ZilqodurStateAnswer {
-                refusal: refusal.number(),
-                place: refusal.place,
-                members: 0,
-                state: found.state,
-            },
+        // One struct for both cases: a state is copied once more where each case puts its own together.
+        let told = ZilqodurMembers::from(found.answer);
+        ZilqodurStateAnswer {
+            refusal: told.refusal,
+            place: told.place,
+            members: told.members,
+            state: found.state,
         }
     }
 }

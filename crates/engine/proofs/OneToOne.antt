@@ -1,6 +1,7 @@
--- Two answers of an entry that stand for the same value or refusal are the same: each answer can be read back.
+-- Two answers of an entry that stand for the same value or refusal are the same: each answer can be read back. For an
+-- answer whose value stands for itself: answer_forms, proofs/OneToOne.antt.
 use Prim.Native.Nat.{ℕ}
-use mathlib.Core.Path.{◌≡◌, refl, sym, ap, ◌∙◌}
+use mathlib.Core.Path.{◌≡◌, refl, ap}
 use Rattle.std.specs.Prelude.{Result, Ok, Err, Option, Some, None}
 use Rattle.answer_forms.specs.Answer.{Answer, value, refusal, Check, accepted, refused}
 use Rattle.answers.specs.Needs.{NeedsValue}
@@ -9,9 +10,8 @@ use Rattle.answers.specs.Audit.{Verdict, found, none}
 use Rattle.answers.specs.Level.{LevelAnswer, split, refusal as not_split}
 use Rattle.answers.specs.Margin.{MarginValue}
 use Rattle.answers.specs.ParentLists.{Step, next, end}
-use Rattle.answer_forms.specs.Checked.{check_of, answer_of}
-use Rattle.answer_forms.specs.Reasons.{number_of}
-use Rattle.answer_forms.proofs.Reasons.{reason_by, reason_is}
+use Rattle.answer_forms.specs.Checked.{check_of}
+use Rattle.answer_forms.proofs.OneToOne.{read_back, refusal_by, refusal_is, error_is}
 use Rattle.answer_forms.specs.declared.Refusal.{Refusal}
 use Rattle.engine.specs.Outcomes.{level_of}
 use Rattle.level.specs.declared.refusal.LevelRefusal.{LevelRefusal}
@@ -23,20 +23,6 @@ use Rattle.engine.specs.declared.margin_split.MarginSplit.{MarginSplit}
 use Rattle.engine.specs.declared.parent_step.Stepped.{Stepped}
 use Rattle.engine.specs.declared.parent_step.Stepped.TheVariants.{Next, End}
 
-read_back : {A B : Type 0} (of : A → B) (back : B → A) → ((a : A) → back (of a) ≡ a) → (a b : A) → of a ≡ of b → a ≡ b
-read_back of back is a b e = sym (is a) ∙ ap back e ∙ is b
-
--- the refusal with a number and a place
-abbrev refusal_by : ℕ → ℕ → Refusal
-refusal_by number place = record { reason = reason_by number; place = place }
-
-refusal_is : (r : Refusal) → refusal_by (number_of r.reason) r.place ≡ r
-refusal_is r = ap (λ reason. record { reason = reason; place = r.place }) (reason_is r.reason)
-
--- a refused answer is read back, whatever the value
-error_is : {A : Type 0} (r : Refusal) → ◌≡◌ {A = Result A Refusal} (Err (refusal_by (number_of r.reason) r.place)) (Err r)
-error_is r = ap Err (refusal_is r)
-
 abbrev check_back : Check → Result Unit Refusal
 check_back accepted = Ok tt
 check_back (refused number place) = Err (refusal_by number place)
@@ -47,19 +33,6 @@ check_is (Err r) = error_is r
 
 pub check_one_to_one : (a b : Result Unit Refusal) → check_of a ≡ check_of b → a ≡ b
 check_one_to_one = read_back check_of check_back check_is
-
-module _ {A : Type 0} where
-  abbrev answer_back : Answer A → Result A Refusal
-  answer_back (value x) = Ok x
-  answer_back (refusal number place) = Err (refusal_by number place)
-
-  answer_is : (a : Result A Refusal) → answer_back (answer_of a) ≡ a
-  answer_is (Ok x) = refl
-  answer_is (Err r) = error_is r
-
-  -- the numbers of members, the sums of caps and the totals among them
-  pub answer_one_to_one : (a b : Result A Refusal) → answer_of a ≡ answer_of b → a ≡ b
-  answer_one_to_one = read_back answer_of answer_back answer_is
 
 abbrev needs_back : Answer NeedsValue → Result NeedsFound Refusal
 needs_back (value v) = Ok (record { whole = v.whole; members = v.members })

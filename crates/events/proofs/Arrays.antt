@@ -1,15 +1,21 @@
 -- The arrays of a state: the parts [0..m] that code takes, and a list written to the front of an array of zeros.
-use Prim.Native.Nat.{ℕ, zero, suc, ◌-◌, ◌≤◌}
+use Prim.Native.Nat.{ℕ, zero, suc, ◌-◌, ◌<◌, ◌≤◌}
 use mathlib.Core.Path.{◌≡◌, refl, sym, ap, ap₂, ◌∙◌}
 use mathlib.Core.List.{List, [], ◌++◌}
 use native.Mathlib.Nat.{sub-zero}
 use native.Mathlib.Omega.{arith}
 use borrow.Author.Tests.{le-ltb}
-use lib.ListN.{length, take, drop, replicate, length-replicate}
+use lib.ListN.{length, set, take, drop, replicate, length-append, length-replicate}
 use Rattle.limits.specs.Limits.{most_arcs}
 use Rattle.game.specs.Tree.{tree_of}
 use Rattle.answers.specs.Checks.{tree_check}
 use Rattle.answers.specs.States.{State, padded, tree_in, state_check}
+use Rattle.answers.specs.Events.{put_arc}
+
+-- what is written for arc v stands at place v - 1
+pub put_at : (l : List ℕ) (v x : ℕ) → 0 < v → set l (v - 1) x ≡ put_arc l v x
+put_at l zero x h = absurd (omega arith)
+put_at l (suc u) x h = ap (λ (i : ℕ). set l i x) {x = suc u - 1} {y = u} (omega arith)
 
 -- the tree of a state, as the parts that code takes
 pub part_tree : (s : State)
@@ -28,6 +34,16 @@ zeros_left zero (suc k) = ap (λ (i : ℕ). replicate {A = ℕ} i 0) {x = 0} {y 
 zeros_left (suc n) (suc k) =
     zeros_left n k ∙ ap (λ (i : ℕ). replicate {A = ℕ} i 0) {x = n - k} {y = suc n - suc k} (omega arith)
 
+-- a list that is short enough fills an array when it is padded
+pub padded_length : (l : List ℕ) → length l ≤ most_arcs → length (padded l) ≡ most_arcs
+unfolding padded
+padded_length l few =
+    omega (
+      arith,
+      length-append l (replicate (most_arcs - length l) 0),
+      length-replicate {A = ℕ} (most_arcs - length l) 0,
+    )
+
 pub zeros_padded : replicate most_arcs 0 ≡ padded []
 unfolding padded
 zeros_padded = refl
@@ -38,7 +54,7 @@ module _ {zeros : List ℕ} (are : zeros ≡ padded []) where
   zeros_are = are
 
   pub zeros_room : length zeros ≡ most_arcs
-  zeros_room = ap length zeros_are ∙ length-replicate {A = ℕ} most_arcs 0
+  zeros_room = ap length are ∙ padded_length [] (omega arith)
 
   pub front_padded : {front l : List ℕ} {n : ℕ} → front ≡ l → n ≡ length l → front ++ drop (n - 0) zeros ≡ padded l
   unfolding padded

@@ -1,6 +1,6 @@
 -- An event on the tree of a state: what is checked before it, and the tree that the changed state has.
 use Prim.Native.Nat.{ℕ, zero, suc, ◌-◌, ◌≤◌}
-use mathlib.Core.Path.{◌≡◌, refl, ap, ap₂, ◌∙◌}
+use mathlib.Core.Path.{◌≡◌, refl, sym, ap, ap₂, ◌∙◌}
 use mathlib.Core.List.{List}
 use native.Mathlib.Nat.{sub-zero}
 use native.Mathlib.Omega.{arith}
@@ -10,13 +10,15 @@ use Rattle.basics.proofs.Sums.{count_le}
 use Rattle.limits.specs.Limits.{most_arcs}
 use Rattle.game.specs.Network.{member_count}
 use Rattle.game.specs.Tree.{Tree, tree_of, network, of_arc}
-use Rattle.answer_forms.specs.Answer.{accepted, fault, ◌then◌, answer}
+use Rattle.answer_forms.specs.Answer.{accepted, fault, ◌then◌, answer, written}
 use Rattle.answers.specs.Checks.{tree_check}
 use Rattle.answers.specs.Members.{member_count_answer}
-use Rattle.answers.specs.States.{State, tree_in}
+use Rattle.answers.specs.States.{State, tree_in, made_state}
 use Rattle.answers.specs.Events.{Change, arrive, leave, new_cost, Event, put_arc, changed_at, reached, marked_so}
-use Rattle.answers.specs.Events.{vertex_check, fit_check, event_check}
+use Rattle.answers.specs.Events.{vertex_check, fit_check, event_check, apply_check}
 use Rattle.answers.specs.EventLaws.{members_after, OutcomeLaws}
+use Rattle.answers.specs.Quotes.{asked_shares}
+use Rattle.answers.proofs.EventLaws.{reached_accepted}
 use Rattle.answers.proofs.Limits.{tree_limits}
 use Rattle.answers.proofs.Reached.{outcome_laws}
 
@@ -55,7 +57,17 @@ unfolding tree_in
 changed_tree s next v c h arcs is =
     ap₂ front arcs is ∙ front_changed (tree_of s.parents s.costs s.marks) s.arcs v h c
 
--- an event that 21 and 22 let pass, on a state with an accepted tree
+-- an event that 21 and 22 let pass is refused where the tree that it reaches is
+module _ (t : Tree) (e : Event) (ok : tree_check t ≡ accepted) (fits : fit_check t e ≡ accepted) where
+  pub event_check_lem : event_check t e ≡ tree_check (reached t e)
+  unfolding event_check
+  event_check_lem = rw fits (sym (outcome_laws t e ok fits).check)
+
+  pub event_answer : member_count_answer (reached t e) ≡ answer (event_check t e) (member_count (network (reached t e)))
+  unfolding member_count_answer
+  event_answer = rw event_check_lem
+
+-- such an event, on a state with an accepted tree
 module _ (s next : State) (e : Event) (ok : tree_check (tree_in s) ≡ accepted)
     (fits : fit_check (tree_in s) e ≡ accepted)
     (arcs : next.arcs ≡ s.arcs)
@@ -70,15 +82,19 @@ module _ (s next : State) (e : Event) (ok : tree_check (tree_in s) ≡ accepted)
       → members_after n e.change ≡ member_count (network (tree_in next))
   reached_members counts = rw (counts, ← laws.members, tree_reached) refl
 
-  -- it is refused where the tree that it reaches is
   pub reached_check : tree_check (tree_in next) ≡ event_check (tree_in s) e
-  unfolding event_check
-  reached_check = rw (fits, ← laws.check, ← tree_reached) refl
+  reached_check = rw tree_reached (sym (event_check_lem (tree_in s) e ok fits))
 
   pub reached_count : member_count_answer (tree_in next)
       ≡ answer (event_check (tree_in s) e) (member_count (network (reached (tree_in s) e)))
-  unfolding member_count_answer
-  reached_count = rw (reached_check, tree_reached) refl
+  reached_count = rw tree_reached (event_answer (tree_in s) e ok fits)
+
+-- the shares of the state after the event
+pub asked_shares_lem : (s : State) (e : Event) {next : State} (n : ℕ) → apply_check s e ≡ accepted
+    → next ≡ written (apply_check s e) s (made_state (reached (tree_in s) e) n)
+    → next.shares ≡ asked_shares s e
+unfolding asked_shares made_state
+asked_shares_lem s e n go is = rw (is, go, reached_accepted s e go)
 
 -- a tree in the arrays of a state has few members
 pub members_few : (s : State) → s.arcs ≤ most_arcs → member_count (network (tree_in s)) ≤ most_arcs

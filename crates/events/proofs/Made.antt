@@ -33,6 +33,19 @@ module _ (t : Tree) where
   unfolding member_count_answer
   not_counted e = refused_answer (tree_check t) _ e
 
+-- a list for the shares with one entry a member
+module _ (t : Tree) (out : List ℕ) (sized : length out ≡ member_count (network t)) where
+  pub check_same : members_check t out ≡ tree_check t
+  check_same = then_nothing (tree_check t) (rw (eq-eqb (length out) (member_count (network t)) sized))
+
+  pub split_answer : by_arc_answer t out ≡ member_count_answer t
+  unfolding by_arc_answer member_count_answer
+  split_answer = rw check_same
+
+  pub split_list : by_arc_list t out ≡ written (tree_check t) out (by_arc (network t))
+  unfolding by_arc_list
+  split_list = rw check_same
+
 -- shares written to the front of an array of zeros, one a member
 module _ (t : Tree) (n : ℕ) (counts : n ≡ member_count (network t)) (few : n ≤ most_arcs)
     {zeros : List ℕ} (are : zeros ≡ padded []) where
@@ -42,12 +55,8 @@ module _ (t : Tree) (n : ℕ) (counts : n ≡ member_count (network t)) (few : n
   sized : length lent ≡ member_count (network t)
   sized = ap (λ (z : List ℕ). length (take (n - 0) z)) (zeros_are are) ∙ zeros_length most_arcs n few ∙ counts
 
-  check_same : members_check t lent ≡ tree_check t
-  check_same = then_nothing (tree_check t) (rw (eq-eqb (length lent) (member_count (network t)) sized))
-
-  lent_answer : by_arc_answer t lent ≡ member_count_answer t
-  unfolding by_arc_answer member_count_answer
-  lent_answer = rw check_same
+  pub lent_answer : by_arc_answer t lent ≡ member_count_answer t
+  lent_answer = split_answer t lent sized
 
   pub split_accepted : {k : ℕ} → value k ≡ by_arc_answer t lent → tree_check t ≡ accepted
   split_accepted e = (counted t (e ∙ lent_answer)).0
@@ -58,12 +67,11 @@ module _ (t : Tree) (n : ℕ) (counts : n ≡ member_count (network t)) (few : n
 
   module _ (ok : tree_check t ≡ accepted) where
     lent_list : by_arc_list t lent ≡ by_arc (network t)
-    unfolding by_arc_list
-    lent_list = rw (check_same, ok)
+    lent_list = rw ok at (split_list t lent sized)
 
     shares_length : n ≡ length (by_arc (network t))
     shares_length =
-        counts ∙ sym (by_arc_laws t lent (check_same ∙ ok)).one_a_member ∙ ap length lent_list
+        counts ∙ sym (by_arc_laws t lent (check_same t lent sized ∙ ok)).one_a_member ∙ ap length lent_list
 
     pub shares_padded : {l : List ℕ} → l ≡ by_arc_list t lent → l ++ drop (n - 0) zeros ≡ padded (by_arc (network t))
     shares_padded e = front_padded are (e ∙ lent_list) shares_length

@@ -16,7 +16,8 @@ use crate::make::{State, split_into_state};
 use answer_forms::{Reason, Refusal};
 use limits::MOST_ARCS;
 
-// The state with the change made at the event's vertex. Out of line, as `no_state`.
+// The state with the change made at the event's vertex. Out of line, so that its copies are gone
+// from the stack when the shares are split.
 #[inline(never)]
 fn changed(state: &State, event: Event) -> State
     requires vertex_nonzero { 0 < event.vertex }

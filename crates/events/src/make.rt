@@ -1,5 +1,5 @@
 // The state made of a tree.
-ghost use Rattle.std.specs.Prelude.{◌≡◌, ◌≤◌};
+ghost use Rattle.std.specs.Prelude.{◌≡◌, ◌≤◌, length};
 ghost use Rattle.limits.specs.Limits.{most_arcs};
 ghost use Rattle.game.specs.Network.{member_count};
 ghost use Rattle.game.specs.Tree.{tree_of, network};
@@ -7,7 +7,7 @@ ghost use Rattle.answer_forms.specs.Answer.{written};
 ghost use Rattle.answer_forms.specs.Checked.{answer_of};
 ghost use Rattle.answers.specs.Checks.{tree_check};
 ghost use Rattle.answers.specs.Members.{member_count_answer};
-ghost use Rattle.answers.specs.States.{no_state, made_state};
+ghost use Rattle.answers.specs.States.{padded, no_state, made_state};
 ghost use Rattle.events.specs.Outcomes.{state_of};
 
 use answer_forms::Refusal;
@@ -33,8 +33,7 @@ pub struct StateAnswer {
     pub state: State,
 }
 
-// 0 throughout. Out of line, so that its copies are gone from the stack when the shares are split.
-#[inline(never)]
+// 0 throughout.
 #[tactic(auto, unfolding(answers::specs::States::padded))]
 fn no_state() -> State
     ensures { state_of result ≡ no_state }
@@ -47,6 +46,41 @@ fn no_state() -> State
         shares: [0; MOST_ARCS],
         committed: 0,
     }
+}
+
+// The state of a tree with these shares, and with so many events committed.
+fn held(
+    parents: &[u16],
+    costs: &[u32],
+    marks: &[u16],
+    shares: [u64; MOST_ARCS],
+    committed: u32,
+) -> State
+    requires parents_len_bound { length parents.now ≤ most_arcs }
+    requires costs_len_bound { length costs.now ≤ most_arcs }
+    requires marks_len_bound { length marks.now ≤ most_arcs }
+    ensures { state_of result
+        ≡ record {
+          arcs = length parents.now;
+          parents = padded parents.now;
+          costs = padded costs.now;
+          marks = padded marks.now;
+          shares = shares;
+          committed = committed;
+        } }
+{
+    let mut state = State {
+        arcs: parents.len(),
+        parents: [0; MOST_ARCS],
+        costs: [0; MOST_ARCS],
+        marks: [0; MOST_ARCS],
+        shares,
+        committed,
+    };
+    state.parents[0..parents.len()].copy_from_slice(parents);
+    state.costs[0..costs.len()].copy_from_slice(costs);
+    state.marks[0..marks.len()].copy_from_slice(marks);
+    state
 }
 
 // Writes the state made of a tree with this number of members, with so many events committed. The tree's refusals.
@@ -66,25 +100,8 @@ pub fn split_into_state(
 {
     let mut shares = [0; MOST_ARCS];
     engine::split_by_arc(parents, costs, marks, &mut shares[0..members])?;
-    let mut state = no_state();
-    state.arcs = parents.len();
-    state.parents[0..parents.len()].copy_from_slice(parents);
-    state.costs[0..costs.len()].copy_from_slice(costs);
-    state.marks[0..marks.len()].copy_from_slice(marks);
-    state.shares = shares;
-    state.committed = committed;
-    *out = state;
+    *out = held(parents, costs, marks, shares, committed);
     Ok(members)
-}
-
-// Writes the state made of a tree. The tree's refusals.
-fn make(parents: &[u16], costs: &[u32], marks: &[u16], out: &mut State) -> Result<usize, Refusal>
-    ensures answer_value { answer_of result ≡ member_count_answer (tree_of parents.now costs.now marks.now) }
-    ensures state_value { state_of out.new ≡ written (tree_check (tree_of parents.now costs.now marks.now))
-        (state_of out.old) (made_state (tree_of parents.now costs.now marks.now) 0) }
-{
-    let members = engine::count_members(parents, costs, marks)?;
-    split_into_state(parents, costs, marks, members, 0, out)
 }
 
 // The tree's refusals.
@@ -94,7 +111,24 @@ pub fn make_state(parents: &[u16], costs: &[u32], marks: &[u16]) -> StateAnswer
     ensures state_value { state_of result.state
         ≡ made_state (tree_of parents.now costs.now marks.now) 0 }
 {
-    let mut state = no_state();
-    let answer = make(parents, costs, marks, &mut state);
-    StateAnswer { answer, state }
+    let counted = engine::count_members(parents, costs, marks);
+    let Ok(members) = counted else {
+        return StateAnswer {
+            answer: counted,
+            state: no_state(),
+        };
+    };
+    let mut shares = [0; MOST_ARCS];
+    let answer = engine::split_by_arc(parents, costs, marks, &mut shares[0..members]);
+    let Ok(_) = answer else {
+        return StateAnswer {
+            answer,
+            state: no_state(),
+        };
+    };
+    // Put together where it is answered: a state lent for it would be copied.
+    StateAnswer {
+        answer,
+        state: held(parents, costs, marks, shares, 0),
+    }
 }

@@ -6,7 +6,7 @@ use Rattle.std.specs.Prelude.{Result, Ok, Err}
 use Rattle.answer_forms.specs.Answer.{Answer, value, refusal}
 use Rattle.answer_forms.specs.Checked.{answer_of}
 use Rattle.answer_forms.specs.declared.Refusal.{Refusal}
-use Rattle.engine.proofs.OneToOne.{answer_one_to_one}
+use Rattle.answer_forms.proofs.OneToOne.{answer_one_to_one}
 use Rattle.job.specs.Reader.{JobValue, job_read_of}
 use Rattle.job.specs.declared.JobRead.{JobRead}
 

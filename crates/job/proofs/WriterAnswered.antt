@@ -40,6 +40,11 @@ module _ (c : Contents) where
       let known = tree_counted _ e in
       went_on (sym (plain_check_lem c.parents c.costs) ∙ known.0) (rw known.1 at is)
 
+  pub refused_length : {number place : ℕ} → contents_check c ≡ refused number place
+      → refusal number place ≡ length_answer c
+  unfolding length_answer
+  refused_length e = rw e
+
   pub accepted_length : contents_check c ≡ accepted
       → value (length c.note + 8 * length c.parents + 16 * length c.caps + 16) ≡ length_answer c
   unfolding length_answer floor_width

@@ -1,6 +1,7 @@
 mod Readable
 mod Parts
 mod Roomy
+mod Answered
 mod Convertible
 mod Converted
 pub mod Usable

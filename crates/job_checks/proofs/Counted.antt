@@ -65,7 +65,7 @@ too_many t h =
     rw (some_arc, lt-ltb most_arcs (length t.parents) h)
 
 -- the member rows stand within the bytes
-rows_within : (v : Version) (bytes : List ℕ) {offset members : ℕ} → Layout v bytes → offset ≡ member_offset bytes
+pub rows_within : (v : Version) (bytes : List ℕ) {offset members : ℕ} → Layout v bytes → offset ≡ member_offset bytes
     → members ≡ job_members bytes → offset + member_width v * members ≤ length bytes
 rows_within v bytes l at n = rw (at, n) (omega (arith, l.members_end))
 

@@ -1,5 +1,6 @@
 // The checks of a job's bytes in a version, and the values of a job that was accepted.
-// Each check's answer is opened by let else, the form that document 01 names for the reader.
+// A check that answers what its caller does is opened by let else, the form that document 01 names for the reader. The
+// count of the tree's members answers a number besides, so `check_values` opens it by `?`.
 #![tactic(auto)]
 
 mod contents;

@@ -24,7 +24,10 @@ pub fn check_room(lengths: &[usize]) -> Result<(), Refusal>
     ensures { check_of result ≡ room_check lengths.now }
 {
     for length in lengths {
-        check_length(*length)?;
+        let found = check_length(*length);
+        let Ok(()) = found else {
+            return found;
+        };
     }
     Ok(())
 }

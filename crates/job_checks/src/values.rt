@@ -1,5 +1,6 @@
 // The values of a job: the engine's checks on what the rows hold.
-// Each check's answer is opened by let else, the form that document 01 names for the reader.
+// A check that answers what its caller does is opened by let else, the form that document 01 names for the reader; the
+// count of the tree's members answers a number besides, and is opened by `?`.
 ghost use Rattle.std.specs.Prelude.{◌≡◌, not, ◌+◌, ◌*◌, ◌≤◌, length, eqb};
 ghost use Rattle.basics.specs.Sum.{entries};
 ghost use Rattle.limits.specs.Limits.{most_arcs};

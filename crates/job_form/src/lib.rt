@@ -121,7 +121,10 @@ fn check_rows(version: Version, bytes: &[u8], offset: usize, arcs: usize) -> Res
     ensures { check_of result ≡ fillers_from version bytes.now offset 0 arcs }
 {
     for i in 0..arcs {
-        check_filler(version, number_at(bytes, offset + 2 + 8 * i, 2), i + 1)?;
+        let found = check_filler(version, number_at(bytes, offset + 2 + 8 * i, 2), i + 1);
+        let Ok(()) = found else {
+            return found;
+        };
     }
     Ok(())
 }

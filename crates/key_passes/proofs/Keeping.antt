@@ -24,7 +24,7 @@ use Rattle.game.proofs.ArcEntries.{arc_entry}
 use Rattle.key_passes.specs.declared.flags.Flag.{Flag}
 use Rattle.key_passes.specs.Passes.{at, flag_at, same_flag, is_exact, Rising, Outside, stays_open, filtered, is_cut}
 use Rattle.key_passes.specs.Passes.{linked_sum, Kept}
-use Rattle.key_passes.proofs.Places.{Placed, placed_or_outside, written, lower_kept}
+use Rattle.key_passes.proofs.Places.{Placed, placed_or_outside, rising_at, written, lower_kept}
 use Rattle.key_passes.proofs.Filtered.{filtered_next}
 
 -- an entry is written at the front, or nothing
@@ -296,3 +296,10 @@ module _ (order links bounds : List ℕ) (flags : List Flag) (lows highs rests :
             → Keeping order'' links'' rests'' next' (i + 1)
         keeping_on passed fronted =
             keeping_by v_is p_is refl (rw (← v_is) at fronted.order_is) fronted.next_is passed.link_is passed.rest_is
+
+    -- the turn's vertex and its link, as they are read
+    pub keeping_here : length bounds ≤ most_arcs → Rising (length bounds) order links → i < length order'
+        → let v = at order' i in (0 < v) × (v ≤ length bounds) × (at links' v < v)
+    keeping_here few r h =
+        let in_order : i < length order = omega (arith, s.order_sized) in
+        rw (vertex_is few r in_order, link_is few r in_order) (rising_at r i in_order)

@@ -2,6 +2,7 @@
 --
 --   placed_at, placed_first, placed_later  a vertex stands at a place
 --   placed_or_outside                      v stands in the order or does not
+--   rising_at                              the vertex at a place, and its link
 --   written, lower_kept                    a list after it is written at the vertex at a place
 use Prim.Native.Nat.{ℕ, zero, suc, ◌≤◌, ◌<◌}
 use mathlib.Core.Path.{◌≡◌, refl, subst}
@@ -44,6 +45,10 @@ placed_or_outside (w ∷ l) v =
     later d o (suc i) h e = o i (omega arith) e
 
 module _ {m : ℕ} {order links : List ℕ} (r : Rising m order links) (i : ℕ) (h : i < length order) where
+  -- the vertex at place i, and its link
+  pub rising_at : (0 < at order i) × (at order i ≤ m) × (at links (at order i) < at order i)
+  rising_at = (r.first i h, r.last i h, r.lower i h)
+
   -- a list with one entry a vertex, written there
   pub written : {A : Type 0} → m ≤ most_arcs → (l : List A) (x none : A) → length l ≡ 1024
       → get_or (set l (at order i) x) (at order i) none ≡ x

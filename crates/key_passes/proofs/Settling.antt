@@ -86,7 +86,8 @@ module _ (order links bounds pivots held : List ℕ) (flags₀ : List Flag) (low
       not_yet : Ahead order i (at order i)
       not_yet p b e = omega (arith, r.rising p i b h)
 
-      settling_on : (flag : Flag) (low high : ℕ)
+      -- the turn, by what is written at its vertex
+      pub settling_on : (flag : Flag) (low high : ℕ)
           → let v = at order i in
           flag ≡ flag_of (at held v) (get_or bounds (v - 1) 0) (flag_at flags (at links v))
           → low ≡ cond (is_below flag) (at lows v) (at pivots v)

@@ -8,6 +8,7 @@ use native.Mathlib.Numerals.{add-one}
 use native.Mathlib.Omega.{arith}
 use lib.ListN.{length, get_or}
 use lib.Dec.{eqb, ltb}
+use Rattle.std.specs.Prelude.{Result, Err}
 use Rattle.basics.specs.Sum.{list}
 use Rattle.game.specs.Network.{Network, sum_below, need, member_count}
 use Rattle.game.specs.Tree.{network_of}
@@ -15,9 +16,11 @@ use Rattle.game.specs.Floors.{adjusted}
 use Rattle.basics.proofs.Bools.{both}
 use Rattle.basics.proofs.Lists.{list_at}
 use Rattle.tree.specs.Passes.{network_at}
-use Rattle.answers.specs.Level.{LevelAnswer, split, refusal, cap_sum, stop_or, split_from}
+use Rattle.answers.specs.Level.{LevelAnswer, split, refusal, cap_sum, stop_or, split_from, list_after}
 use Rattle.answers.proofs.LevelStops.{stop_short, stop_high, stop_none}
+use Rattle.level.specs.Refusals.{answer_of}
 use Rattle.level.specs.Stops.{stop_from}
+use Rattle.level.specs.declared.refusal.LevelRefusal.{LevelRefusal}
 
 -- the first answer where it is a refusal, else the second
 abbrev or_else : LevelAnswer → LevelAnswer → LevelAnswer
@@ -68,6 +71,11 @@ module _ (members : ℕ) (ps ns ds ss : List ℕ) where
 
     pub stop_later : found ≡ split members → stop_from members ps ns ds ss k ≡ stop_from members ps ns ds ss j
     stop_later e = here ∙ rw e
+
+-- a refusal leaves the list as it came
+pub list_kept : {r : Result Unit LevelRefusal} {stop : LevelRefusal} → r ≡ Err stop
+    → (members : ℕ) (out shares : List ℕ) → out ≡ list_after (answer_of members r) out shares
+list_kept e members out shares = rw e
 
 -- over the lists of a network
 module _ (ps cs vs caps floors : List ℕ) where

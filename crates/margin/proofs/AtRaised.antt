@@ -4,7 +4,7 @@ use mathlib.Core.Path.{◌≡◌, sym, ap, ◌∙◌}
 use mathlib.Core.List.{List, []}
 use native.Mathlib.Decide.{dec_lt}
 use native.Mathlib.Omega.{arith}
-use lib.ListN.{length, get_or, replicate, get_or-replicate}
+use lib.ListN.{length, get_or, replicate, length-replicate, get_or-replicate, get_or-eq_default}
 use lib.Dec.{eqb}
 use Rattle.basics.specs.Sum.{pick, sum, list}
 use Rattle.basics.proofs.Sums.{In, sum_cong}
@@ -23,7 +23,7 @@ use Rattle.game.proofs.LevelFree.{level_free}
 use Rattle.game.proofs.LevelBounds.{ample_covers, amounts_all, bound_above}
 use Rattle.game.proofs.Branched.{Branched, all_users, used_below, from_source_alone}
 use Rattle.game.proofs.Raised.{raised_unused, raised_grows, widest_passes}
-use Rattle.tree.specs.Passes.{Sound, Costed, Listed, network_at}
+use Rattle.tree.specs.Passes.{Sound, Costed, Listed, Capped, network_at}
 use Rattle.tree.proofs.Bounds.{costs_bound}
 use Rattle.tree.proofs.Vertices.{vertices_count}
 use Rattle.key_search.specs.Shares.{Bounds, level_at}
@@ -89,6 +89,24 @@ module _ (ps cs vs : List ℕ) (sound : Sound ps) (costed : Costed ps cs) (liste
       cap_at j h =
           ap (λ (l : List ℕ). get_or l j 0) filled
           ∙ get_or-replicate {A = ℕ} k j most_share 0 (omega (arith, as_many, count))
+
+      -- they are one cap a member, none above the limit
+      pub ample_capped : Capped (length vs) caps
+      ample_capped =
+          rw (filled, as_many)
+          (record {
+            sized = length-replicate {A = ℕ} (length vs) most_share;
+            limited = λ j.
+                elim (dec_lt j (length vs)) [
+                  | yes h ↦ omega (arith, get_or-replicate {A = ℕ} (length vs) j most_share 0 h)
+                  | no h ↦
+                      omega (
+                        arith,
+                        get_or-eq_default {A = ℕ} (replicate (length vs) most_share) 0 {n = j}
+                            (omega (arith, length-replicate {A = ℕ} (length vs) most_share)),
+                      )
+                ];
+          })
 
       pub raised_bounds : Bounds ps vs caps bounds
       unfolding sum_below

@@ -1,7 +1,10 @@
 -- The widest margin of an arc between two margins, of which the lower is possible and the upper is not.
-use Prim.Native.Nat.{ℕ, suc, ◌+◌, ◌≤◌, ◌<◌}
-use mathlib.Core.Path.{◌≡◌, ap}
+use Prim.Native.Nat.{ℕ, suc, ◌+◌, ◌-◌, ◌≤◌, ◌<◌}
+use mathlib.Core.Path.{◌≡◌, refl, ap}
+use mathlib.Core.Bool.{Bool, true, false, cond}
 use native.Mathlib.Omega.{arith}
+use borrow.Author.Tests.{leb-true, leb-false}
+use lib.Dec.{leb}
 use Rattle.basics.proofs.Sums.{In}
 use Rattle.game.specs.Network.{Network, need}
 use Rattle.game.specs.ByArc.{user_count}
@@ -39,6 +42,25 @@ module _ (n : Network) (arc : ℕ) where
           possible = b.possible;
           impossible = λ l p. omega arith;
         }
+
+    next : (P : ℕ → ℕ → Type 0) → (t : Bool) → (t ≡ true → P middle high) → (t ≡ false → P low middle)
+        → P (cond t middle low) (cond t high middle)
+    next P true up down = up refl
+    next P false up down = down refl
+
+    -- both cases at once, and how far the two are apart then
+    module _ {low' high' : ℕ} (el : low' ≡ cond (leb value wanted) middle low)
+        (eh : high' ≡ cond (leb value wanted) high middle) where
+      pub between_on : Between wanted low' high'
+      between_on =
+          rw (el, eh)
+          (next (Between wanted) (leb value wanted) (λ t. between_up (leb-true value wanted t))
+          (λ t. between_down (leb-false value wanted t)))
+
+      pub between_less : high' - low' < high - low
+      between_less =
+          rw (el, eh)
+          (next (λ l h. h - l < high - low) (leb value wanted) (λ t. omega arith) (λ t. omega arith))
 
   module _ (rooted : Rooted n) (i : In n.arcs arc) where
     pub between_start : {wanted : ℕ} → wanted ≡ need n arc → Between wanted 0 (wanted + 1)

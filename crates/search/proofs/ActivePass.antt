@@ -163,7 +163,8 @@ module _ (ps ms excesses : List ℕ) where
           ∙ s.none_beyond u (omega arith))
           (both (eqb (get_or ms i 0) 1))
 
-      choosing_on : words' ≡ words_of (bit words') → Choosing (set active (suc i) on) words' (j + w) (suc i)
+      -- the turn, by the two lists as it writes them
+      pub choosing_on : words' ≡ words_of (bit words') → Choosing (set active (suc i) on) words' (j + w) (suc i)
       unfolding after
       choosing_on encodes =
           record {

@@ -35,7 +35,9 @@ pub fn search(parents: &[u16], costs: &[u32], marks: &[u16], proposal: &[i64]) -
         result.group ≡ words_of (is_in (named n proposal.now)) }
 {
     let found = excess::find_excesses(parents, costs, marks, proposal);
-    let group = active::choose_active(parents, marks, &found.of);
+    // A copy of its own: lent as a part of `found`, the list stands on the stack twice.
+    let of = found.of;
+    let group = active::choose_active(parents, marks, &of);
     Found {
         amount: found.total,
         group,

@@ -4,12 +4,13 @@ use mathlib.Core.Path.{◌≡◌, refl, sym, ap, ◌∙◌}
 use mathlib.Core.Bool.{Bool, true, false, cond, not, true≢false, ◌&&◌, ◌||◌}
 use mathlib.Core.List.{List, [], ◌∷◌}
 use native.Mathlib.Nat.{not-suc-le-zero, le_of_suc-le-suc}
-use native.Mathlib.Numerals.{one-add}
+use native.Mathlib.Numerals.{add-one, one-add}
 use native.Mathlib.Omega.{arith}
 use borrow.Author.Tests.{ltb-true, leb-true, eqb-true, lt-ltb, le-ltb, ne_eqb}
 use lib.Dec.{eqb, leb, ltb}
-use lib.ListN.{length, get_or}
+use lib.ListN.{length, get_or, drop, drop_of_length-le}
 use lib.Pointwise.{pointwise}
+use lib.Seq.{drop-cons}
 use Rattle.std.proofs.Common.{Option, None, Some, IfSome, is_some, unwrap_or, position}
 use Rattle.std.proofs.lemmas.Grind.{common_steps}
 use Rattle.std.proofs.lemmas.List.Recursion.{is_position_or_len}
@@ -70,6 +71,22 @@ pub all_digits_is : (s : List ℕ) → all_digits s ≡ list_all (λ x. ltb (dig
 unfolding all_digits
 all_digits_is [] = refl
 all_digits_is (x ∷ s) = ap (λ rest. ltb (digit_of x) 16 && rest) (all_digits_is s)
+
+-- the digits from place i on: those behind it, where a digit stands there, and none at the end
+module _ {found : Bool} (s : List ℕ) (i : ℕ) (so_far : found ≡ all_digits (drop i s)) where
+  turn : i < length s → found ≡ (ltb (digit_of (get_or s i 0)) 16 && all_digits (drop (i + 1) s))
+  unfolding all_digits
+  turn h = so_far ∙ rw (drop-cons s i 0, add-one)
+
+  pub digits_on : i < length s → digit_of (get_or s i 0) < 16 → found ≡ all_digits (drop (i + 1) s)
+  digits_on h small = rw (lt-ltb (digit_of (get_or s i 0)) 16 small) at (turn h)
+
+  pub digits_stop : i < length s → 16 ≤ digit_of (get_or s i 0) → false ≡ found
+  digits_stop h large = sym (rw (le-ltb (digit_of (get_or s i 0)) 16 large) at (turn h))
+
+  pub digits_end : length s ≤ i → true ≡ found
+  unfolding all_digits
+  digits_end h = sym (rw (drop_of_length-le s h) at so_far)
 
 all_at : (s : List ℕ) (k : ℕ) → all_digits s ≡ true → k < length s → digit_of (get_or s k 0) < 16
 unfolding all_digits

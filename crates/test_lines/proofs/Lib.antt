@@ -3,4 +3,5 @@ mod Fields
 mod HexLaws
 mod Lists
 mod Numbers
-mod Same
+pub mod Same
+mod Searches

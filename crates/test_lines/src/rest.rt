@@ -2,11 +2,18 @@
 ghost use Rattle.std.specs.Prelude.{◌≤◌, length};
 ghost use Rattle.test_lines.specs.Lists.{EqIsSame, RestFrom, RestIs};
 
-// Whether they do, at a type whose == says that two values are the same.
+// Whether all of a list's entries are the value.
+fn all_are<T: PartialEq + Copy>(entries: &[T], value: T) -> bool
+    ensures { EqIsSame T.eq → RestIs entries.now 0 value result }
+{
+    entries.iter().all(|entry| *entry == value)
+}
+
+// Whether those from a place on are, at a type whose == says that two values are the same.
 pub fn is<T: PartialEq + Copy>(entries: &[T], from: usize, value: T) -> bool
     ensures { EqIsSame T.eq → RestIs entries.now from value result }
 {
-    entries.iter().skip(from).all(|entry| *entry == value)
+    all_are(&entries[from.min(entries.len())..], value)
 }
 
 // The end of the last entry that is not the value.

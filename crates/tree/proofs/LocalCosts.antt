@@ -1,10 +1,10 @@
 -- The counted costs of a tree in a local list, and what the passes ask for to write them and to go over them. The
 -- tree's lists are as the passes ask, so that it may have no member.
-use Prim.Native.Nat.{ℕ, ◌-◌}
+use Prim.Native.Nat.{ℕ, ◌-◌, ◌≤◌}
 use mathlib.Core.Path.{◌≡◌, ap, ◌∙◌}
 use mathlib.Core.List.{List, ◌++◌}
 use native.Mathlib.Omega.{arith}
-use lib.ListN.{length, take, replicate}
+use lib.ListN.{length, take, replicate, length-append}
 use Rattle.limits.specs.Limits.{most_arcs}
 use Rattle.basics.specs.Sum.{sum}
 use Rattle.basics.proofs.Lists.{front_part, zeros_length}
@@ -17,6 +17,10 @@ use Rattle.tree.specs.Passes.{Sound, Costed, Marked}
 module _ (t : Tree) {cs : List ℕ} (are : cs ≡ counted_costs t) where
   sized : length cs ≡ length t.parents
   sized = ap length are ∙ counted_length t
+
+  -- it holds an entry for every arc
+  pub counted_room : (rest : List ℕ) → length t.parents ≤ length (cs ++ rest)
+  counted_room rest = omega (arith, sized, length-append cs rest)
 
   pub counted_part : (rest : List ℕ) → take (length t.parents - 0) (cs ++ rest) ≡ counted_costs t
   counted_part rest = front_part cs rest (length t.parents) sized ∙ are

@@ -27,6 +27,19 @@ module _ (ps xs : List ℕ) where
   pub summing_start : {k : ℕ} → k ≡ length ps → length xs ≡ length ps → Summing xs (replicate 1024 0) k
   summing_start e l = record { waiting = record { same = λ i h. refl }; passing = passing_start ps total e l }
 
+  module _ (sound : Sound ps) (k j : ℕ) (within : k ≤ length ps) (next : k ≡ suc j) {out below : List ℕ}
+      (s : Summing out below k) where
+    -- the sums of arc k's children and its own entry
+    pub summing_at : get_or below k 0 + get_or out j 0 ≡ total k
+    summing_at =
+        omega (
+          arith,
+          s.waiting.same j (omega arith),
+          passing_below ps total sound within next s.passing,
+          sum_below_children (network_of ps [] []) sound.rising (of_arc xs) k (omega arith),
+          ap (of_arc xs) next,
+        )
+
   module _ (sound : Sound ps) (sized : length xs ≡ length ps) where
     all_entries : sum (length ps) (of_arc xs) ≡ sum (length xs) (of_arc xs)
     all_entries = rw sized
@@ -57,14 +70,7 @@ module _ (ps xs : List ℕ) where
       found_is : found ≡ total k
       found_is =
           let up : k - 1 + 1 ≡ k = omega arith in
-          omega (
-            arith,
-            s.waiting.same (k - 1) (omega arith),
-            ap (λ (i : ℕ). get_or below i 0) up,
-            passing_below ps total sound within next s.passing,
-            sum_below_children (network_of ps [] []) sound.rising (of_arc xs) k (omega arith),
-            ap (of_arc xs) next,
-          )
+          rw up (summing_at sound k (k - 1) within next s)
 
       pub summing_fits : found ≤ sum (length xs) (of_arc xs)
       summing_fits = omega (arith, found_is, sum_below_le (network_of ps [] []) (of_arc xs) k, all_entries)

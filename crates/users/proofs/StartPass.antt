@@ -50,6 +50,10 @@ module _ (ps counts : List ℕ) where
     at_parent : Next starts i p w
     at_parent = s.nexts p (sound.rising i)
 
+    -- where the parent's next child arc begins
+    pub start_fits : w + get_or counts i 0 ≤ 1046529
+    start_fits = omega (arith, at_parent.small, counted.limited i within, sound.few)
+
     -- what stands for the vertices up to i stays
     kept_before : (v : ℕ) → v ≤ i → of_arc starts' v ≡ of_arc starts v
     kept_before zero h = refl

@@ -1,9 +1,10 @@
-use mathlib.Core.Path.{refl}
+use mathlib.Core.Path.{refl, sym}
 use native.Mathlib.Omega.{arith}
 use Rattle.job_bytes.specs.Versions.{floor_width}
 use Rattle.job_bytes.specs.declared.version.Version.TheVariants.{Two}
 use Rattle.job_checks.proofs.Counted.{member_column}
-use Rattle.job2.specs.Reader.{lent2, read2_check, job2_lists}
+use Rattle.job2.specs.Reader.{lent2}
+use Rattle.job2.proofs.Answered.{read_job}
 use Rattle.job2.proofs.Roomy.{has_room}
 use Rattle.job2.proofs.read.Goals as goal
 
@@ -38,20 +39,14 @@ read_column-requires-2 c =
     record { width_bound = omega arith; within = within; rows_in_bounds = omega (arith, ok.for_floors, t.members_is) }
 
 pub returns-clause-floors_after : goal.returns-clause-floors_after
-unfolding floor_width read2_check job2_lists
+unfolding floor_width
 returns-clause-floors_after c =
+    let args = c.args in
+    let lists = lent2 args.parents.now args.costs.now args.marks.now args.caps.now args.proposals.now args.floors.now in
     let read = c.read_contents-t.ensures in
     let t = read.trailer_of in
     let marks = rw (t.arcs_is, t.arc_offset_is) at c.read_column.ensures in
     let floors = rw (t.members_is, t.member_offset_is) at c.read_column-2.ensures in
-    rw (
-      ← c.in_ok-check_room.ensures,
-      ← c.in_ok-check_job.ensures,
-      read.parents_after,
-      read.costs_after,
-      marks,
-      read.caps_after,
-      read.proposals_after,
-      floors,
-    )
-    refl
+    let it = read_job _ lists (sym c.in_ok-check_room.ensures) (sym c.in_ok-check_job.ensures) t
+    read.parents_after read.costs_after marks read.caps_after read.proposals_after floors in
+    it.1

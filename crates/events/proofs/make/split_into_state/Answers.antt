@@ -1,13 +1,12 @@
-use mathlib.Core.Path.{◌≡◌, refl, ap}
+use mathlib.Core.Path.{◌≡◌, refl, ◌∙◌}
 use native.Mathlib.Omega.{arith}
 use Rattle.game.specs.Tree.{tree_of}
 use Rattle.std.proofs.lemmas.Result.{err_from_is_err_and}
 use Rattle.answer_forms.specs.Answer.{accepted}
 use Rattle.answers.specs.Checks.{tree_check}
 use Rattle.answers.specs.Members.{member_count_answer}
-use Rattle.answers.specs.States.{State}
 use Rattle.answers.proofs.Limits.{tree_limits}
-use Rattle.events.proofs.Arrays.{zeros_padded, zeros_room, front_padded}
+use Rattle.events.proofs.Arrays.{zeros_padded}
 use Rattle.events.proofs.Made.{split_accepted, split_refused, shares_padded, made}
 use Rattle.events.proofs.make.split_into_state.Goals as goal
 use Rattle.events.proofs.make.split_into_state.Goals.{In_ok-split_by_arc}
@@ -28,23 +27,14 @@ returns-in_err-split_by_arc c =
     let passed_on = err_from_is_err_and exit.result exit.ensures.1 in
     record { answer_value = rw (passed_on.1, passed_on.2, away) refl; state_value = rw away refl }
 
-pub slice_bounds-copy_from_slice-end : goal.slice_bounds-copy_from_slice-end
-slice_bounds-copy_from_slice-end c =
-    let room = zeros_room (ap (λ (s : State). s.parents) c.no_state-state.ensures) in
-    let limits = tree_limits _ (tree_accepted (goal.at.slice_bounds-copy_from_slice-end c).In_ok-split_by_arc) in
-    omega (arith, room, limits.arcs)
-
-pub slice_bounds-copy_from_slice-end-2 : goal.slice_bounds-copy_from_slice-end-2
-slice_bounds-copy_from_slice-end-2 c =
-    let room = zeros_room (ap (λ (s : State). s.costs) c.no_state-state.ensures) in
-    let limits = tree_limits _ (tree_accepted (goal.at.slice_bounds-copy_from_slice-end-2 c).In_ok-split_by_arc) in
-    omega (arith, room, limits.arcs, limits.costs)
-
-pub slice_bounds-copy_from_slice-end-3 : goal.slice_bounds-copy_from_slice-end-3
-slice_bounds-copy_from_slice-end-3 c =
-    let room = zeros_room (ap (λ (s : State). s.marks) c.no_state-state.ensures) in
-    let limits = tree_limits _ (tree_accepted (goal.at.slice_bounds-copy_from_slice-end-3 c).In_ok-split_by_arc) in
-    omega (arith, room, limits.arcs, limits.marks)
+pub held-requires : goal.held-requires
+held-requires c =
+    let limits = tree_limits _ (tree_accepted (goal.at.held-requires c).In_ok-split_by_arc) in
+    record {
+      parents_len_bound = limits.arcs;
+      costs_len_bound = omega (arith, limits.arcs, limits.costs);
+      marks_len_bound = omega (arith, limits.arcs, limits.marks);
+    }
 
 pub returns : goal.returns
 unfolding member_count_answer
@@ -53,10 +43,7 @@ returns c =
     let ok = tree_accepted (goal.at.returns c).In_ok-split_by_arc in
     record {
       answer_value = rw (ok, c.requires.members_value) refl;
-      state_value = rw ok (made t _ ok
-          (front_padded (ap (λ (s : State). s.parents) c.no_state-state.ensures) c.copy_from_slice.ensures.after refl)
-          (front_padded (ap (λ (s : State). s.costs) c.no_state-state.ensures) c.copy_from_slice-2.ensures.after refl)
-          (front_padded (ap (λ (s : State). s.marks) c.no_state-state.ensures) c.copy_from_slice-3.ensures.after refl)
+      state_value = rw ok (c.held.ensures ∙ made t _ ok refl refl refl
           (shares_padded t _ c.requires.members_value c.requires.members_le_most_arcs zeros_padded ok
           c.in_ok-split_by_arc.ensures.out_after));
     }

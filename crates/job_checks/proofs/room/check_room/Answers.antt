@@ -1,6 +1,6 @@
-use mathlib.Core.Path.{refl}
+use mathlib.Core.Path.{refl, ap}
 use native.Mathlib.Omega.{arith}
-use Rattle.answer_forms.proofs.PassedOn.{passed_on}
+use Rattle.answer_forms.specs.Checked.{check_of}
 use Rattle.answers.specs.Checks.{one_by_one}
 use Rattle.answers.proofs.OneByOne.{step_accepted, step_refused}
 use Rattle.job_checks.specs.JobCheck.{room_check}
@@ -10,13 +10,13 @@ pub loop-length-init : goal.loop-length-init
 unfolding one_by_one
 loop-length-init c = refl
 
-pub returns-in_err-check_length : goal.returns-in_err-check_length
+pub returns-in_default : goal.returns-in_default
 unfolding room_check
-returns-in_err-check_length c =
+returns-in_default c =
     let loop = c.loop-length in
-    passed_on _ _ c.from_residual.ensures.1
-    (step_refused _ loop.length-index loop.invariant c.in_err-check_length.ensures refl _ (omega arith))
+    step_refused _ loop.length-index loop.invariant c.check_length-found.ensures (ap check_of c.in_default.is)
+    _ (omega arith)
 
 pub loop-length-preserved : goal.loop-length-preserved
 loop-length-preserved c =
-    step_accepted _ c.loop-length.length-index c.loop-length.invariant c.in_ok-check_length.ensures refl
+    step_accepted _ c.loop-length.length-index c.loop-length.invariant c.in-Ok.ensures refl
